@@ -1,0 +1,4 @@
+pub mod Xor
+pub mod Codewords
+pub mod Agreements
+pub mod Tops

@@ -1,0 +1,10 @@
+-- The limits that every layer shares.
+use Prim.Native.Nat.{ℕ, _^_, _≤_}
+
+-- the largest number of places of a word
+abbrev pub maxPlaces : ℕ
+maxPlaces = 64
+
+-- a lawful word length
+abbrev pub Length : ℕ → Type 0
+Length n = (1 ≤ n) × (n ≤ maxPlaces)

@@ -1,0 +1,3 @@
+pub mod length;
+pub mod refusal;
+pub mod words;
