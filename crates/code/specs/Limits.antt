@@ -8,3 +8,11 @@ maxPlaces = 64
 -- a lawful word length
 abbrev pub Length : ℕ → Type 0
 Length n = (1 ≤ n) × (n ≤ maxPlaces)
+
+-- the largest absolute value of a label
+abbrev pub fullLabel : ℕ
+fullLabel = 1024
+
+-- the largest total of sizes at which readings are added, negated and transformed
+abbrev pub sumLimit : ℕ
+sumLimit = 2 ^ 28

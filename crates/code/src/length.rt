@@ -3,10 +3,8 @@ ghost use mathlib.Core.Path.{_≡_};
 ghost use Rattle.std.specs.Results.{Cases};
 ghost use Rattle.code.specs.declared.refusal.Refusal.the-variants.{LengthOutOfRange};
 ghost use Rattle.code.specs.Limits.{Length};
+use crate::limits::MAX_PLACES;
 use crate::refusal::Refusal;
-
-// The largest number of places that a word may have.
-pub const MAX_PLACES: usize = 64;
 
 // The number of places of a word, from 1 to 64 and never anything else.
 #[derive(Clone, Copy, PartialEq, Eq, Debug)]

@@ -1,3 +1,4 @@
 pub mod length;
+pub mod limits;
 pub mod refusal;
 pub mod words;
