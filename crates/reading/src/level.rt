@@ -1,6 +1,7 @@
 ghost use mathlib.Core.Path.{_≡_};
 ghost use Rattle.reading.specs.Kinds.{levelWeight, levelSize, levelOpposite};
 use crate::Reading;
+use std::fmt;
 
 // The level kind: one number, which is its weight.
 #[derive(Clone, Copy, PartialEq, Eq, Debug)]
@@ -50,5 +51,12 @@ pub impl Reading for Level as LevelReading {
 
     fn size(self) -> u32 {
         self.value.unsigned_abs()
+    }
+}
+
+pub impl fmt::Display for Level as LevelDisplay {
+    fn fmt<W: fmt::Write>(&self, f: &mut fmt::Formatter<W>) -> fmt::Result {
+        let value = self.value;
+        write!(f, "{value}")
     }
 }
