@@ -4,6 +4,7 @@ use crate::Reading;
 use std::fmt;
 
 // The level kind: one number, which is its weight.
+#[repr(C)]
 #[derive(Clone, Copy, PartialEq, Eq, Debug)]
 pub struct Level {
     pub value: i32,
