@@ -3,7 +3,7 @@ ghost use Prim.Native.Nat.{_≤_};
 ghost use lib.ListN.{length};
 ghost use Rattle.std.specs.Results.{Cases};
 ghost use Rattle.code.specs.declared.refusal.Section.the-variants.{Group, Transform, Coset};
-ghost use Rattle.card.specs.Cards.{added, blank, cardRows, encoded, Lawful, Only, rowsOf, sectionOf, verdict};
+ghost use Rattle.card.specs.Cards.{added, blank, cardRows, encoded, Lawful, Only, rowsOf, sectionOf, sectionRows, verdict};
 ghost use Rattle.card.specs.Tables.{cardOf};
 use super::CosetCard;
 use super::FinishedCard;
@@ -112,6 +112,7 @@ impl FinishedCard {
     // The rows of a section.
     pub fn section_rows(&self, section: Section) -> &[u64]
         ensures value { λ r. ⌜ now r ≡ sectionOf (cardOf (now (self .entry) .table)) section ⌝ }
+        ensures few { λ r. ⌜ length (now r) ≤ sectionRows ⌝ }
         ensures lawful { λ _. ⌜ Lawful (cardOf (now (self .entry) .table)) ⌝ }
     {
         self.table.section_rows(section)

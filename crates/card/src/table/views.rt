@@ -1,7 +1,7 @@
 ghost use mathlib.Core.Path.{_≡_};
 ghost use Prim.Native.Nat.{_≤_};
 ghost use lib.ListN.{length};
-ghost use Rattle.card.specs.Cards.{Lawful, rowsOf, sectionOf, cardRows};
+ghost use Rattle.card.specs.Cards.{Lawful, rowsOf, sectionOf, sectionRows, cardRows};
 ghost use Rattle.card.specs.Tables.{cardOf};
 use super::Table;
 use code::length::WordLength;
@@ -19,6 +19,7 @@ impl Table {
     // The rows of a section.
     pub fn section_rows(&self, section: Section) -> &[u64]
         ensures value { λ r. ⌜ now r ≡ sectionOf (cardOf (now (self .entry))) section ⌝ }
+        ensures few { λ r. ⌜ length (now r) ≤ sectionRows ⌝ }
         ensures lawful { λ _. ⌜ Lawful (cardOf (now (self .entry))) ⌝ }
     {
         let first_coset = self.group + self.transform;
