@@ -1,4 +1,5 @@
 mod concurrence;
 mod dependence;
+pub mod requests;
 pub mod states;
 mod table;

@@ -1,6 +1,6 @@
 ghost use mathlib.Core.Path.{_≡_};
 ghost use Rattle.std.specs.Results.{Cases};
-ghost use Rattle.card.specs.Cards.{added, blank, encoded, Lawful, Only, verdict};
+ghost use Rattle.card.specs.Cards.{added, blank, encoded, Lawful, Only, Told, verdict};
 ghost use Rattle.card.specs.Tables.{cardOf, Filling};
 use super::CARD_ROWS;
 use super::Table;
@@ -28,6 +28,7 @@ impl Table {
     pub fn push(&mut self, section: Section, row: u64) -> Result<(), Refusal>
         requires { ⌜ Filling (now self .transform) (now self .coset) section ⌝ }
         ensures answer { λ r. ⌜ r ≡ verdict (cardOf (now (self .entry))) section row ⌝ }
+        ensures told { λ r. ⌜ Told (cardOf (now (self .entry))) section row r ⌝ }
         ensures card { λ r. ⌜ cardOf (now (self .exit)) ≡ added r (cardOf (now (self .entry))) section row ⌝ }
         ensures refused { λ r. ⌜ Cases r (λ _. Unit {0}) (λ _. now (self .exit) ≡ now (self .entry)) ⌝ }
         ensures filling { λ _. ⌜ Filling (now (self .exit) .transform) (now (self .exit) .coset) section ⌝ }
