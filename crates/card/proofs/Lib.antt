@@ -5,4 +5,3 @@ pub mod Tables
 pub mod Pushes
 pub mod Lawful
 pub mod Told
-pub mod OwnLists

@@ -3,4 +3,3 @@ pub mod Echelon
 pub mod Places
 pub mod Cards
 pub mod Tables
-pub mod Requests

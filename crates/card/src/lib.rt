@@ -1,5 +1,4 @@
 mod concurrence;
 mod dependence;
-pub mod requests;
 pub mod states;
 mod table;

@@ -1,8 +1,8 @@
 use mathlib.Core.Path.{_≡_}
 use Prim.Native.Nat.{ℕ, _<_}
 use lib.ListN.{drop, take}
-use Rattle.card.specs.Requests.{DueAt, viewAfter, viewOf}
-use Rattle.card.proofs.requests.answer_all.Given as given
+use Rattle.card_list.specs.Requests.{DueAt, viewAfter, viewOf}
+use Rattle.card_list.proofs.requests.answer_all.Given as given
 
 abbrev pub Inv-loop-i : given.InvT-loop-i
 Inv-loop-i l =

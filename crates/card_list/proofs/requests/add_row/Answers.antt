@@ -1,13 +1,13 @@
 use mathlib.Core.Path.{_≡_, sym, ap, ap₂, _∙_, subst₂}
 use Rattle.code.specs.declared.refusal.Section.the-variants.{Group, Transform, Coset}
-use Rattle.card.specs.declared.requests.Request.the-variants.{AddRow}
-use Rattle.card.specs.declared.requests.Answer.{Answer}
-use Rattle.card.specs.declared.requests.AnyCard.{AnyCard}
-use Rattle.card.specs.declared.requests.AnyCard.the-variants.{InGroup, InTransform, InCoset}
+use Rattle.card_list.specs.declared.requests.Request.the-variants.{AddRow}
+use Rattle.card_list.specs.declared.requests.Answer.{Answer}
+use Rattle.card_list.specs.declared.requests.AnyCard.{AnyCard}
+use Rattle.card_list.specs.declared.requests.AnyCard.the-variants.{InGroup, InTransform, InCoset}
 use Rattle.card.specs.Tables.{cardOf}
-use Rattle.card.specs.Requests.{DueIn, afterwards, answered, viewOf}
-use Rattle.card.proofs.OwnLists.{due-told, shown, shown-added, none-taken}
-use Rattle.card.proofs.requests.add_row.Needs as need
+use Rattle.card_list.specs.Requests.{DueIn, afterwards, answered, viewOf}
+use Rattle.card_list.proofs.OwnLists.{due-told, shown, shown-added, none-taken}
+use Rattle.card_list.proofs.requests.add_row.Needs as need
 
 pub returns-in-InGroup : need.returns-in-InGroup
 returns-in-InGroup c =

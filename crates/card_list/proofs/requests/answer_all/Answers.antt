@@ -4,13 +4,13 @@ use Prim.Native.Nat.{ℕ, _+_, _<_}
 use native.Mathlib.Omega.{arith}
 use lib.ListN.{drop, length}
 use Rattle.std.proofs.shelf.Lists.{drop-drop, drop-set-lt}
-use Rattle.card.specs.declared.requests.Answer.{Answer}
-use Rattle.card.specs.declared.requests.AnyCard.the-variants.{InGroup}
+use Rattle.card_list.specs.declared.requests.Answer.{Answer}
+use Rattle.card_list.specs.declared.requests.AnyCard.the-variants.{InGroup}
 use Rattle.card.specs.Cards.{Card}
-use Rattle.card.specs.Requests.{DueAt, View, viewAfter, viewOf}
-use Rattle.card.proofs.OwnLists.{own-more, view-more, shown}
+use Rattle.card_list.specs.Requests.{DueAt, View, viewAfter, viewOf}
+use Rattle.card_list.proofs.OwnLists.{own-more, view-more, shown}
 use Rattle.code.specs.declared.refusal.Section.the-variants.{Group}
-use Rattle.card.proofs.requests.answer_all.Needs as need
+use Rattle.card_list.proofs.requests.answer_all.Needs as need
 
 pub loop-i-holds : need.loop-i-holds
 loop-i-holds c =

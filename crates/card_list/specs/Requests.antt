@@ -10,14 +10,14 @@ use Rattle.std.specs.declared.result.Result.the-variants.{Ok, Err}
 use Rattle.code.specs.declared.refusal.Section.{Section}
 use Rattle.code.specs.declared.refusal.Section.the-variants.{Group, Transform, Coset}
 use Rattle.code.specs.declared.refusal.Refusal.{Refusal}
-use Rattle.card.specs.declared.requests.Request.{Request}
-use Rattle.card.specs.declared.requests.Request.the-variants.{AddRow, MoveOn}
-use Rattle.card.specs.declared.requests.Answer.{Answer}
-use Rattle.card.specs.declared.requests.Answer.the-variants.{Taken, Moved, Refused, Closed}
-use Rattle.card.specs.declared.requests.AnyCard.{AnyCard}
-use Rattle.card.specs.declared.requests.AnyCard.the-variants.{InGroup, InTransform, InCoset, Finished}
+use Rattle.card_list.specs.declared.requests.Request.{Request}
+use Rattle.card_list.specs.declared.requests.Request.the-variants.{AddRow, MoveOn}
+use Rattle.card_list.specs.declared.requests.Answer.{Answer}
+use Rattle.card_list.specs.declared.requests.Answer.the-variants.{Taken, Moved, Refused, Closed}
+use Rattle.card_list.specs.declared.requests.AnyCard.{AnyCard}
+use Rattle.card_list.specs.declared.requests.AnyCard.the-variants.{InGroup, InTransform, InCoset, Finished}
 use Rattle.card.specs.Cards.{RowTold, rowsOf}
 use Rattle.card.specs.Tables.{cardOf}
 
 -- ---- what requests and answers say
 

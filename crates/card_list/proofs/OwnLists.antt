@@ -15,12 +15,12 @@ use Rattle.std.specs.declared.result.Result.the-variants.{Ok, Err}
 use Rattle.code.specs.declared.refusal.Section.{Section}
 use Rattle.code.specs.declared.refusal.Section.the-variants.{Group, Transform, Coset}
 use Rattle.code.specs.declared.refusal.Refusal.{Refusal}
-use Rattle.card.specs.declared.requests.Request.{Request}
-use Rattle.card.specs.declared.requests.Request.the-variants.{AddRow, MoveOn}
-use Rattle.card.specs.declared.requests.Answer.{Answer}
-use Rattle.card.specs.declared.requests.Answer.the-variants.{Taken, Moved, Refused, Closed}
+use Rattle.card_list.specs.declared.requests.Request.{Request}
+use Rattle.card_list.specs.declared.requests.Request.the-variants.{AddRow, MoveOn}
+use Rattle.card_list.specs.declared.requests.Answer.{Answer}
+use Rattle.card_list.specs.declared.requests.Answer.the-variants.{Taken, Moved, Refused, Closed}
 use Rattle.card.specs.Cards.{Card, RowTold, Told, added, pushed, rowsOf, sectionOf}
-use Rattle.card.specs.Requests.{View, Due, DueIn, DueAt, afterwards, answered, moves, nextOpen, openAfter, rowTaken, taken, takenSince, viewAfter}
+use Rattle.card_list.specs.Requests.{View, Due, DueIn, DueAt, afterwards, answered, moves, nextOpen, openAfter, rowTaken, taken, takenSince, viewAfter}
 
 -- ---- one row
 
