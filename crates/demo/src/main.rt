@@ -1,3 +1,4 @@
+mod cards;
 mod fold;
 mod show;
 
@@ -9,6 +10,7 @@ ghost use Rattle.std.specs.Vec.{made};
 ghost use Rattle.std.specs.shelf.Lists.{All};
 ghost use Rattle.code.specs.Words.{Best};
 ghost use Rattle.demo.specs.Fold.{codeE};
+use cards::cards;
 use fold::best_message;
 use fold::fold;
 use hadamard::transform;
@@ -129,7 +131,8 @@ fn run(rt: &LibcRuntime) -> io::Result<()> {
     show_code(rt)?;
     one_head(rt)?;
     two_heads(rt)?;
-    refusals(rt)
+    refusals(rt)?;
+    cards(rt)
 }
 
 fn main(rt: LibcRuntime) -> Result<(), AnyError> {
