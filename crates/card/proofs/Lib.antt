@@ -1,0 +1,6 @@
+pub mod Echelons
+pub mod Places
+pub mod Decided
+pub mod Tables
+pub mod Pushes
+pub mod Lawful

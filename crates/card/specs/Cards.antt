@@ -1,0 +1,86 @@
+-- Cards: what a card means, and what becomes of a row that is added.
+use mathlib.Core.Bool.{Bool, true, cond}
+use mathlib.Core.List.{List, [], _∷_, _++_}
+use mathlib.Core.Path.{_≡_}
+use Prim.Native.Nat.{ℕ, _^_, _≤_, _<_}
+use lib.Dec.{leb}
+use lib.ListN.{length}
+use Rattle.std.specs.declared.result.Result.{Result}
+use Rattle.std.specs.declared.result.Result.the-variants.{Ok, Err}
+use Rattle.code.specs.declared.refusal.Section.{Section}
+use Rattle.code.specs.declared.refusal.Section.the-variants.{Group, Transform, Coset}
+use Rattle.code.specs.declared.refusal.Refusal.{Refusal}
+use Rattle.code.specs.declared.refusal.Refusal.the-variants.{MessageTooLarge, DigitBeyondLength, SectionFull, DependentRow, ConcurrenceBroken}
+use Rattle.code.specs.Limits.{Length}
+use Rattle.code.specs.Words.{codeword}
+use Rattle.code.specs.Spans.{Independent}
+use Rattle.card.specs.Rows.{Within, Concur, dependent, concordant}
+
+-- the largest number of rows of a section, and of a card
+abbrev pub sectionRows : ℕ
+sectionRows = 8
+
+abbrev pub cardRows : ℕ
+cardRows = 24
+
+-- a word length and the rows of the three sections
+pub record Card : Type 0 where
+  pub len : ℕ
+  pub group : List ℕ
+  pub transform : List ℕ
+  pub coset : List ℕ
+
+-- all rows, in their order
+abbrev pub rowsOf : Card → List ℕ
+rowsOf k = k .group ++ (k .transform ++ k .coset)
+
+abbrev pub sectionOf : Card → Section → List ℕ
+sectionOf k Group = k .group
+sectionOf k Transform = k .transform
+sectionOf k Coset = k .coset
+
+-- a card with no rows
+abbrev pub blank : ℕ → Card
+blank n = record { len = n; group = []; transform = []; coset = [] }
+
+-- what every card keeps, in every state
+pub record Lawful (k : Card) : Type 0 where
+  pub sized : Length (k .len)
+  pub few : (s : Section) → length (sectionOf k s) ≤ sectionRows
+  pub within : Within (k .len) (rowsOf k)
+  pub independent : Independent (rowsOf k)
+  pub concurring : Concur (k .group)
+
+-- whether a new row keeps the concurrence of the group
+abbrev pub keeps : Card → Section → ℕ → Bool
+keeps k Group row = concordant (k .len) (k .group ++ row ∷ [])
+keeps k Transform row = true
+keeps k Coset row = true
+
+-- the card with one row more in a section
+abbrev pub pushed : Card → Section → ℕ → Card
+pushed k Group row = record { len = k .len; group = k .group ++ row ∷ []; transform = k .transform; coset = k .coset }
+pushed k Transform row = record { len = k .len; group = k .group; transform = k .transform ++ row ∷ []; coset = k .coset }
+pushed k Coset row = record { len = k .len; group = k .group; transform = k .transform; coset = k .coset ++ row ∷ [] }
+
+-- the four checks of a row, in their order
+abbrev pub verdict : Card → Section → ℕ → Result (Unit {0}) Refusal
+verdict k s row =
+    cond (leb (2 ^ k .len) row) (Err (DigitBeyondLength s (length (sectionOf k s))))
+    (cond (leb sectionRows (length (sectionOf k s))) (Err (SectionFull s))
+    (cond (dependent (rowsOf k) row) (Err (DependentRow s (length (sectionOf k s))))
+    (cond (keeps k s row) (Ok tt)
+    (Err (ConcurrenceBroken s (length (sectionOf k s)))))))
+
+-- the card after a row was handed to it with that answer
+abbrev pub added : Result (Unit {0}) Refusal → Card → Section → ℕ → Card
+added (Ok _) k s row = pushed k s row
+added (Err _) k s row = k
+
+-- the answer of encoding
+abbrev pub encoded : Card → ℕ → Result ℕ Refusal
+encoded k m = cond (leb (2 ^ length (rowsOf k)) m) (Err MessageTooLarge) (Ok (codeword (rowsOf k) m))
+
+-- no other message has the word w
+abbrev pub Only : Card → ℕ → ℕ → Type 0
+Only k m w = (other : ℕ) → other < 2 ^ length (rowsOf k) → codeword (rowsOf k) other ≡ w → other ≡ m

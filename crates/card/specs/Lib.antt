@@ -1,0 +1,5 @@
+pub mod Rows
+pub mod Echelon
+pub mod Places
+pub mod Cards
+pub mod Tables

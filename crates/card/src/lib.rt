@@ -1,0 +1,4 @@
+mod concurrence;
+mod dependence;
+pub mod states;
+mod table;
