@@ -5,7 +5,7 @@ ghost use Rattle.std.specs.Results.{Cases};
 ghost use Rattle.finder.specs.Search.{Answered, Refused};
 ghost use Rattle.finder.specs.Same.{SameAnswer, Taken};
 use crate::Finder;
-use crate::Found;
+use crate::found::Found;
 use code::refusal::Refusal;
 use reading::Reading;
 

@@ -1,12 +1,12 @@
 ghost use Rattle.finder.specs.Sides.{ofSide};
 use crate::Finder;
-use crate::Found;
+use crate::found::Found;
 use code::length::WordLength;
 use code::refusal::Refusal;
 use reading::Reading;
 
 // One of two finders, and itself a finder.
-#[derive(Clone, Copy, PartialEq, Eq, Debug)]
+#[derive(Clone, Copy)]
 pub enum Either<A, B> {
     First(A),
     Second(B),

@@ -1,5 +1,6 @@
 pub mod both;
 pub mod either;
+pub mod found;
 
 ghost use mathlib.Core.Path.{_≡_};
 ghost use mathlib.Core.List.{List};
@@ -8,16 +9,10 @@ ghost use lib.ListN.{length, getD};
 ghost use Rattle.std.specs.Results.{Cases};
 ghost use Rattle.std.specs.Options.{Cases as BySome};
 ghost use Rattle.finder.specs.Search.{Lawful, Answered, Refused};
+use crate::found::Found;
 use code::length::WordLength;
 use code::refusal::Refusal;
 use reading::Reading;
-
-// What a search finds: the message and a reading that weighs its agreement.
-#[derive(Clone, Copy, PartialEq, Eq, Debug)]
-pub struct Found<R> {
-    pub message: u32,
-    pub reading: R,
-}
 
 // A finder means a word length and a list of rows. It finds, for a word of readings, the smallest message among those of greatest agreement.
 pub trait Finder {
