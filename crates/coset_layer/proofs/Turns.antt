@@ -18,11 +18,6 @@ use Rattle.code.proofs.Codewords.{codeword-append, codeword-zero}
 use Rattle.code.proofs.Agreements.{agreement-negated}
 use Rattle.code.proofs.Tops.{top-same, top-takes, top-keeps}
 
--- what holds of the one that a test picks
-pub picked : {X : Type 0} (P : X → Type 0) (b : Bool) (x y r : X) → r ≡ cond b y x → (b ≡ true → P y) → (b ≡ false → P x) → P r
-picked P true x y r e p q = subst P (sym e) (p refl)
-picked P false x y r e p q = subst P (sym e) (q refl)
-
 -- the shift of a choice stays within 32 bits
 pub choice-below : (c o : ℕ) → o ≤ 4 → c < (1 * 2 ^ o) % 2 ^ 32 → c < 2 ^ o
 choice-below c o h l = let e = one-shl o 32 (omega arith) in omega arith

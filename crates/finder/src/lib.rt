@@ -1,6 +1,8 @@
 pub mod both;
 pub mod either;
+pub mod fold;
 pub mod found;
+pub mod plain;
 
 ghost use mathlib.Core.Path.{_≡_};
 ghost use mathlib.Core.List.{List};

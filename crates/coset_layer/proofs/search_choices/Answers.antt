@@ -9,10 +9,11 @@ use lib.Signed.{ltZ}
 use Rattle.std.proofs.shelf.Bits.{one-shl, pow-pos}
 use Rattle.std.proofs.shelf.Lists.{length-map}
 use Rattle.code.specs.Words.{agrees, Top, Best, codeword, negatedAt}
+use Rattle.finder.proofs.Picks.{picked}
 use Rattle.finder.proofs.Refusals.{taken-sizes}
 use Rattle.coset_layer.specs.Pile.{cutTo}
 use Rattle.coset_layer.proofs.Piles.{codeword-cut}
-use Rattle.coset_layer.proofs.Turns.{picked, first-turn, last-turn, turn-takes, turn-keeps, choice-below, choice-shift, message-below}
+use Rattle.coset_layer.proofs.Turns.{first-turn, last-turn, turn-takes, turn-keeps, choice-below, choice-shift, message-below}
 use Rattle.coset_layer.proofs.search_choices.Given as given
 use Rattle.coset_layer.proofs.search_choices.Needs as need
 
