@@ -1,10 +1,11 @@
 use crate::PLACES;
 use crate::ROWS;
-use crate::fold::columns;
+use code::length::WordLength;
 use code::refusal::LayerDisplay;
 use code::refusal::Refusal;
 use code::refusal::RefusalDisplay;
 use code::words::word_of;
+use finder::fold::columns;
 use std::fmt::Display;
 use std::io;
 
@@ -52,7 +53,10 @@ pub(crate) fn show_code(rt: &LibcRuntime) -> io::Result<()> {
         rt,
         "The column of a place is the number whose bit j is row j's digit there:"
     )?;
-    let columns = columns(&ROWS);
+    let Ok(length) = WordLength::new(PLACES) else {
+        return Ok(());
+    };
+    let columns = columns(&ROWS, length);
     show_list(rt, &columns[0..PLACES])
 }
 

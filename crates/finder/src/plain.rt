@@ -6,6 +6,8 @@ use code::length::WordLength;
 
 mod search;
 
+pub use search::PlainFinderFinder;
+
 // The plain finder: the rows of a card's group and transform sections, at most 16, the first `count` of the table.
 #[derive(Clone, Copy)]
 pub struct PlainFinder {

@@ -1,6 +1,0 @@
-use Rattle.code.specs.Words.{Top}
-use Rattle.hadamard.specs.Transform.{weightAt}
-use Rattle.demo.proofs.fold.first_largest.Given as given
-
-abbrev pub Inv-loop-i : given.InvT-loop-i
-Inv-loop-i g l = Top (weightAt (g .R·Reading .weight) (l .list)) (l .i) (l .best)
