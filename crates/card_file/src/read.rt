@@ -7,7 +7,7 @@ ghost use Rattle.code.specs.declared.refusal.Section.{Section};
 ghost use Rattle.code.specs.declared.refusal.Section.the-variants.{Group, Transform, Coset};
 ghost use Rattle.card.specs.Cards.{added, Card, verdict};
 ghost use Rattle.card.specs.Tables.{cardOf};
-ghost use Rattle.card_file.specs.Files.{noted, readCard, readRows, readSection, readTo, refilled};
+ghost use Rattle.card_file.specs.Files.{isNone, noted, readCard, readRows, readSection, readSections, readTo, refilled};
 use crate::bytes::ROW_SIZE;
 use crate::bytes::read_row;
 use card::states::CosetCard;
@@ -45,7 +45,7 @@ impl TakesRows for GroupCard as GroupTakes {
     }
 
     fn take(&mut self, row: u64) -> Result<(), Refusal> {
-        self.add_row(row)
+        GroupCard::add_row(self, row)
     }
 }
 
@@ -59,7 +59,7 @@ impl TakesRows for TransformCard as TransformTakes {
     }
 
     fn take(&mut self, row: u64) -> Result<(), Refusal> {
-        self.add_row(row)
+        TransformCard::add_row(self, row)
     }
 }
 
@@ -73,7 +73,7 @@ impl TakesRows for CosetCard as CosetTakes {
     }
 
     fn take(&mut self, row: u64) -> Result<(), Refusal> {
-        self.add_row(row)
+        CosetCard::add_row(self, row)
     }
 }
 
@@ -92,6 +92,24 @@ pub fn read_card(bytes: &[u8], into: &mut FinishedCard) -> Result<(), Refusal>
 fn read_file(bytes: &[u8]) -> Result<FinishedCard, Refusal>
     ensures { λ r. ⌜ Cases r (λ k. Ok (cardOf (k .table)) ≡ readCard (now (bytes .entry))) (λ e. Err e ≡ readCard (now (bytes .entry))) ⌝ }
 {
+    let (card, end) = read_sections(bytes)?;
+    if !is_end(bytes, end) {
+        return Err(Refusal::BytesLeftOver);
+    }
+    Ok(card)
+}
+
+// Whether no byte is left from `at` on.
+fn is_end(bytes: &[u8], at: usize) -> bool
+    ensures { λ r. ⌜ r ≡ isNone (drop at (now (bytes .entry))) ⌝ }
+{
+    at >= bytes.len()
+}
+
+// The card that a file's length and sections describe, and where they end.
+fn read_sections(bytes: &[u8]) -> Result<(FinishedCard, usize), Refusal>
+    ensures { λ r. ⌜ Cases r (λ p. Ok (record { card = cardOf (p .0 .table); left = drop (p .1) (now (bytes .entry)) }) ≡ readSections (now (bytes .entry))) (λ e. Err e ≡ readSections (now (bytes .entry))) ⌝ }
+{
     if bytes.len() == 0 {
         return Err(Refusal::BytesEndEarly);
     }
@@ -102,10 +120,7 @@ fn read_file(bytes: &[u8]) -> Result<FinishedCard, Refusal>
     let after_transform = read_section(&mut transform, bytes, after_group)?;
     let mut coset = transform.close_transform();
     let end = read_section(&mut coset, bytes, after_transform)?;
-    if end != bytes.len() {
-        return Err(Refusal::BytesLeftOver);
-    }
-    Ok(coset.finish())
+    Ok((coset.finish(), end))
 }
 
 // Reads a section's count and rows from `at` on, and tells where they end.
