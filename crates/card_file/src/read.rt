@@ -7,6 +7,7 @@ ghost use Rattle.code.specs.declared.refusal.Section.{Section};
 ghost use Rattle.code.specs.declared.refusal.Section.the-variants.{Group, Transform, Coset};
 ghost use Rattle.card.specs.Cards.{added, Card, verdict};
 ghost use Rattle.card.specs.Tables.{cardOf};
+ghost use Rattle.card_file.specs.FileRows.{RowsAsAdded};
 ghost use Rattle.card_file.specs.Files.{isNone, noted, readCard, readRows, readSection, readSections, readTo, refilled};
 use crate::bytes::ROW_SIZE;
 use crate::bytes::read_row;
@@ -77,16 +78,24 @@ impl TakesRows for CosetCard as CosetTakes {
     }
 }
 
-// Fills the card from a file, or turns the file down and leaves the card as it was.
+// Fills the card from a file, or turns the file down and leaves the card as it was. The rows of the file stand as rows
+// added to a card just started.
 pub fn read_card(bytes: &[u8], into: &mut FinishedCard) -> Result<(), Refusal>
     ensures answer { λ r. ⌜ r ≡ noted (readCard (now (bytes .entry))) ⌝ }
     ensures card { λ _. ⌜ cardOf (now (into .exit) .table) ≡ refilled (readCard (now (bytes .entry))) (cardOf (now (into .entry) .table)) ⌝ }
     ensures refused { λ r. ⌜ Cases r (λ _. Unit {0}) (λ _. now (into .exit) ≡ now (into .entry)) ⌝ }
+    ensures rows { λ _. ⌜ RowsAsAdded (now (bytes .entry)) ⌝ }
 {
+    rows_stand(bytes);
     let card = read_file(bytes)?;
     *into = card;
     Ok(())
 }
+
+// Shows how a file's rows stand; nothing is done.
+fn rows_stand(bytes: &[u8])
+    ensures { λ _. ⌜ RowsAsAdded (now (bytes .entry)) ⌝ }
+{}
 
 // The card that a file describes.
 fn read_file(bytes: &[u8]) -> Result<FinishedCard, Refusal>
