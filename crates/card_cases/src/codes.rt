@@ -6,7 +6,7 @@ use code::refusal::Refusal;
 use code::words::word_of;
 
 // The most rows of a code here.
-pub const MOST_ROWS: usize = 16;
+pub(crate) const MOST_ROWS: usize = 16;
 
 // A code of n places with k rows.
 #[derive(Drop)]
@@ -36,28 +36,28 @@ fn cyclic(name: &'static str, n: usize, k: usize, exponents: &[u32]) -> Code {
     Code { name, n, k, rows }
 }
 
-pub fn golay() -> Code {
+pub(crate) fn golay() -> Code {
     cyclic("Golay", 23, 12, &[0, 1, 5, 6, 7, 9, 11])
 }
 
-pub fn hamming() -> Code {
+pub(crate) fn hamming() -> Code {
     cyclic("Hamming", 15, 11, &[0, 1, 4])
 }
 
-pub fn bch_15_7() -> Code {
+pub(crate) fn bch_15_7() -> Code {
     cyclic("BCH", 15, 7, &[0, 4, 6, 7, 8])
 }
 
-pub fn bch_21_12() -> Code {
+pub(crate) fn bch_21_12() -> Code {
     cyclic("BCH", 21, 12, &[0, 1, 4, 5, 7, 8, 9])
 }
 
-pub fn bch_31_11() -> Code {
+pub(crate) fn bch_31_11() -> Code {
     cyclic("BCH", 31, 11, &[0, 2, 4, 6, 7, 9, 10, 13, 17, 18, 20])
 }
 
 // Golay with a place more that makes the number of digits 1 even.
-pub fn extended_golay() -> Code {
+pub(crate) fn extended_golay() -> Code {
     let mut code = golay();
     for row in code.rows.iter_mut() {
         *row |= u64::from(row.count_ones() % 2) << 23;
@@ -96,11 +96,11 @@ fn reed_muller(name: &'static str, k: usize, order: u32) -> Code {
     }
 }
 
-pub fn first_order_reed_muller() -> Code {
+pub(crate) fn first_order_reed_muller() -> Code {
     reed_muller("Reed-Muller of order 1", 6, 1)
 }
 
-pub fn second_order_reed_muller() -> Code {
+pub(crate) fn second_order_reed_muller() -> Code {
     reed_muller("Reed-Muller of order 2", 16, 2)
 }
 
@@ -117,7 +117,7 @@ fn lightest(rows: &[u64], free: u64) -> u64 {
 }
 
 // The card of a code: words without a common place as the group, then rows of the code.
-pub fn build(code: &Code) -> Result<FinishedCard, Refusal> {
+pub(crate) fn build(code: &Code) -> Result<FinishedCard, Refusal> {
     let rows = &code.rows[0..code.k.min(MOST_ROWS)];
     let mut group = GroupCard::new(WordLength::new(code.n)?);
     let mut free = u64::MAX >> ((64 - code.n.min(64)) % 64);

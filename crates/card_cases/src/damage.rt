@@ -46,7 +46,7 @@ fn refused_with(bytes: &[u8], due: Refusal) -> Result<bool, Refusal> {
 }
 
 // Every file that is shorter than code E's ends early.
-pub fn truncations() -> Result<usize, Failure> {
+pub(crate) fn truncations() -> Result<usize, Failure> {
     let bytes = bytes_of_e()?;
     for cut in 0..E_BYTES {
         expect(refused_with(&bytes[0..cut], Refusal::BytesEndEarly)?)?;
@@ -71,7 +71,7 @@ struct Damage {
     due: Refusal,
 }
 
-pub fn damaged() -> Result<usize, Failure> {
+pub(crate) fn damaged() -> Result<usize, Failure> {
     let cases = [
         Damage {
             at: 0,
@@ -249,7 +249,7 @@ fn longest_length() -> Result<bool, Refusal> {
 }
 
 // Code E as a list of requests, with refused ones between, and what they are answered.
-pub fn own_list() -> Result<usize, Failure> {
+pub(crate) fn own_list() -> Result<usize, Failure> {
     let requests = [
         Request::AddRow { row: 3 },
         Request::AddRow { row: 6 },

@@ -22,6 +22,6 @@ pub impl From<io::Error> for Failure as FromIo {
 }
 
 // Goes on where a case is as it should be.
-pub fn expect(right: bool) -> Result<(), Failure> {
+pub(crate) fn expect(right: bool) -> Result<(), Failure> {
     if right { Ok(()) } else { Err(Failure::Differs) }
 }

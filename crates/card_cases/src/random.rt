@@ -128,7 +128,7 @@ fn dependence_at(places: usize, seed: u64, seen: &mut Seen) -> Result<(), Failur
 }
 
 // Rows of 5 to 14 places beside the search over all choices of the rows on the card.
-pub fn dependence() -> Result<Seen, Failure> {
+pub(crate) fn dependence() -> Result<Seen, Failure> {
     let mut seen = Seen {
         rows: 0,
         refused: 0,
@@ -182,7 +182,7 @@ fn concurrence_at(places: usize, seed: u64, seen: &mut Seen) -> Result<(), Failu
 }
 
 // Rows of 3 to 12 places beside the count at every place.
-pub fn concurrence() -> Result<Seen, Failure> {
+pub(crate) fn concurrence() -> Result<Seen, Failure> {
     let mut seen = Seen {
         rows: 0,
         refused: 0,

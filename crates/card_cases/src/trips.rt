@@ -7,10 +7,10 @@ use code::refusal::Refusal;
 use code::refusal::Section;
 
 // The most bytes of a card file.
-pub const MOST_BYTES: usize = 196;
+pub(crate) const MOST_BYTES: usize = 196;
 
 // Whether two cards have the same length and the same rows in each section.
-pub fn same(a: &FinishedCard, b: &FinishedCard) -> bool {
+pub(crate) fn same(a: &FinishedCard, b: &FinishedCard) -> bool {
     a.word_length() == b.word_length()
         && a.section_rows(Section::Group) == b.section_rows(Section::Group)
         && a.section_rows(Section::Transform) == b.section_rows(Section::Transform)
@@ -18,7 +18,7 @@ pub fn same(a: &FinishedCard, b: &FinishedCard) -> bool {
 }
 
 // Whether the card, written and read into another, is the same.
-pub fn reads_back(card: &FinishedCard) -> Result<bool, Refusal> {
+pub(crate) fn reads_back(card: &FinishedCard) -> Result<bool, Refusal> {
     let mut out = [0u8; MOST_BYTES];
     let end = write_card(card, &mut out)?;
     if end > MOST_BYTES {
@@ -30,7 +30,7 @@ pub fn reads_back(card: &FinishedCard) -> Result<bool, Refusal> {
 }
 
 // Whether the messages of two bits or fewer have words other than 0, and the first number that is no message is refused.
-pub fn encodes_apart(card: &FinishedCard) -> Result<bool, Refusal> {
+pub(crate) fn encodes_apart(card: &FinishedCard) -> Result<bool, Refusal> {
     let k = card.rows().len().min(24);
     for i in 0..k {
         for j in 0..k {
