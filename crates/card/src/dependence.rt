@@ -28,7 +28,7 @@ fn reduce(basis: &[u64], row: u64) -> u64
 }
 
 // Whether `row` is the sum of a choice of `rows`: the rows are brought to an echelon, and `row` reduced by it.
-pub fn is_dependent(rows: &[u64], row: u64) -> bool
+pub(crate) fn is_dependent(rows: &[u64], row: u64) -> bool
     requires { ⌜ length (now rows) ≤ cardRows ⌝ }
     ensures { λ r. ⌜ r ≡ dependent (now (rows .entry)) row ⌝ }
 {

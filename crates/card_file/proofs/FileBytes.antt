@@ -17,7 +17,7 @@ use Rattle.code.specs.declared.refusal.Refusal.{Refusal}
 use Rattle.code.specs.declared.refusal.Refusal.the-variants.{BytesEndEarly, LengthOutOfRange}
 use Rattle.code.specs.Limits.{Length}
 use Rattle.card.specs.Cards.{Card, verdict, pushed, blank}
-use Rattle.card_file.specs.Files.{rowBytes, rowOf, rowsBytes, sectionBytes, fileOf, readRows, readSection, readCard, noneLeft, Reading, onOk}
+use Rattle.card_file.specs.Files.{rowBytes, rowOf, rowsBytes, sectionBytes, fileOf, readRows, readSection, readSections, isNone, Reading, onOk}
 
 pub bytes-push : (xs : List ℕ) (r : ℕ) → rowsBytes (xs ++ r ∷ []) ≡ rowsBytes xs ++ rowBytes r
 bytes-push [] r = append-nil (rowBytes r)
@@ -73,18 +73,24 @@ pub read-card-is : (bytes : List ℕ) (n : ℕ) (k₀ k₁ k₁′ k₂ k₂′ 
     → Ok (record { card = k₁; left = drop g bytes }) ≡ readSection Group k₀ (drop 1 bytes)
     → Ok (record { card = k₂; left = drop t bytes }) ≡ readSection Transform k₁′ (drop g bytes)
     → Ok (record { card = k₃; left = drop e bytes }) ≡ readSection Coset k₂′ (drop t bytes)
-    → readCard bytes ≡ noneLeft (record { card = k₃; left = drop e bytes })
+    → Ok (record { card = k₃; left = drop e bytes }) ≡ readSections bytes
 read-card-is bytes n k₀ k₁ k₁′ k₂ k₂′ k₃ g t e some first (lo, hi) is same₁ same₂ a b d =
-    let third : Reading → Result Card Refusal = λ q. onOk (readSection Coset (q .card) (q .left)) noneLeft in
-    let second : Reading → Result Card Refusal = λ q. onOk (readSection Transform (q .card) (q .left)) third in
-    ap readCard (drop-more bytes 0 0 some ∙ ap (λ (m : ℕ). m ∷ drop 1 bytes) (sym first))
+    let third : Reading → Result Reading Refusal = λ q. readSection Coset (q .card) (q .left) in
+    let second : Reading → Result Reading Refusal = λ q. onOk (readSection Transform (q .card) (q .left)) third in
+    sym (ap readSections (drop-more bytes 0 0 some ∙ ap (λ (m : ℕ). m ∷ drop 1 bytes) (sym first))
     ∙ ap₂ (λ (x y : Bool). cond (x && y) (onOk (readSection Group (blank n) (drop 1 bytes)) second) (Err LengthOutOfRange)) (le-leb 1 n lo) (le-leb n 64 hi)
     ∙ ap (λ (k : Card). onOk (readSection Group k (drop 1 bytes)) second) (sym is)
     ∙ ap (λ (q : Result Reading Refusal). onOk q second) (sym a)
     ∙ ap (λ (k : Card). onOk (readSection Transform k (drop g bytes)) third) (sym same₁)
     ∙ ap (λ (q : Result Reading Refusal). onOk q third) (sym b)
-    ∙ ap (λ (k : Card). onOk (readSection Coset k (drop t bytes)) noneLeft) (sym same₂)
-    ∙ ap (λ (q : Result Reading Refusal). onOk q noneLeft) (sym d)
+    ∙ ap (λ (k : Card). readSection Coset k (drop t bytes)) (sym same₂)
+    ∙ sym d)
+
+pub none-at : (bytes : List ℕ) (at : ℕ) → length bytes ≤ at → isNone (drop at bytes) ≡ true
+none-at bytes at h = ap isNone (drop-all at bytes h)
+
+pub some-at : (bytes : List ℕ) (at : ℕ) → at < length bytes → isNone (drop at bytes) ≡ false
+some-at bytes at h = ap isNone (drop-more bytes at 0 h)
 
 -- ---- a file written section by section
 

@@ -85,13 +85,13 @@ file-back : (k : Card) → 1 ≤ k .len → k .len ≤ 64 → length (k .group) 
 file-back k lo hi fg ft fc ag at ac =
     let n = k .len in
     let rest = sectionBytes (k .transform) ++ sectionBytes (k .coset) in
-    let third : Reading → Result Card Refusal = λ q. onOk (readSection Coset (q .card) (q .left)) noneLeft in
-    let second : Reading → Result Card Refusal = λ q. onOk (readSection Transform (q .card) (q .left)) third in
+    let third : Reading → Result Reading Refusal = λ q. readSection Coset (q .card) (q .left) in
+    let second : Reading → Result Reading Refusal = λ q. onOk (readSection Transform (q .card) (q .left)) third in
     let last : Card = record { len = n; group = k .group; transform = k .transform; coset = [] } in
-    ap₂ (λ (x y : Bool). cond (x && y) (onOk (readSection Group (blank n) (sectionBytes (k .group) ++ rest)) second) (Err LengthOutOfRange)) (le-leb 1 n lo) (le-leb n 64 hi)
-    ∙ ap (λ (q : Result Reading Refusal). onOk q second) (section-back Group (k .group) (blank n) rest fg ag)
-    ∙ ap (λ (c : Card). onOk (readSection Transform c rest) third) (with-group n [] (k .group))
-    ∙ ap (λ (q : Result Reading Refusal). onOk q third) (section-back Transform (k .transform) (record { len = n; group = k .group; transform = []; coset = [] }) (sectionBytes (k .coset)) ft at)
+    ap₂ (λ (x y : Bool). onOk (cond (x && y) (onOk (readSection Group (blank n) (sectionBytes (k .group) ++ rest)) second) (Err LengthOutOfRange)) noneLeft) (le-leb 1 n lo) (le-leb n 64 hi)
+    ∙ ap (λ (q : Result Reading Refusal). onOk (onOk q second) noneLeft) (section-back Group (k .group) (blank n) rest fg ag)
+    ∙ ap (λ (c : Card). onOk (onOk (readSection Transform c rest) third) noneLeft) (with-group n [] (k .group))
+    ∙ ap (λ (q : Result Reading Refusal). onOk (onOk q third) noneLeft) (section-back Transform (k .transform) (record { len = n; group = k .group; transform = []; coset = [] }) (sectionBytes (k .coset)) ft at)
     ∙ ap (λ (c : Card). onOk (readSection Coset c (sectionBytes (k .coset))) noneLeft) (with-transform n (k .group) [] (k .transform))
     ∙ ap (λ (l : List ℕ). onOk (readSection Coset last l) noneLeft) (sym (append-nil (sectionBytes (k .coset))))
     ∙ ap (λ (q : Result Reading Refusal). onOk q noneLeft) (section-back Coset (k .coset) last [] fc ac)

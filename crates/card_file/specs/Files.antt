@@ -1,5 +1,5 @@
 -- The bytes of a card file.
-use mathlib.Core.Bool.{cond, _&&_}
+use mathlib.Core.Bool.{Bool, true, false, cond, _&&_}
 use mathlib.Core.List.{List, [], _∷_, _++_}
 use Prim.Native.Nat.{ℕ, zero, suc, _+_, _*_, _/_, _%_}
 use lib.Dec.{leb, ltb}
@@ -70,16 +70,24 @@ abbrev pub readSection : Section → Card → List ℕ → Result Reading Refusa
 readSection s k [] = Err BytesEndEarly
 readSection s k (n ∷ bs) = cond (leb n sectionRows) (readRows s n k bs) (Err (SectionFull s))
 
-abbrev pub noneLeft : Reading → Result Card Refusal
-noneLeft r = elim (r .left) [ [] ↦ Ok (r .card) | b ∷ bs ↦ Err BytesLeftOver ]
-
--- what a file is read as: the rows are added, in their order, to a card just started
-abbrev pub readCard : List ℕ → Result Card Refusal
-readCard [] = Err BytesEndEarly
-readCard (n ∷ bs) =
+-- the length and the three sections: the rows are added, in their order, to a card just started
+abbrev pub readSections : List ℕ → Result Reading Refusal
+readSections [] = Err BytesEndEarly
+readSections (n ∷ bs) =
     cond (leb 1 n && leb n maxPlaces)
-    (onOk (readSection Group (blank n) bs) (λ g. onOk (readSection Transform (g .card) (g .left)) (λ t. onOk (readSection Coset (t .card) (t .left)) noneLeft)))
+    (onOk (readSection Group (blank n) bs) (λ g. onOk (readSection Transform (g .card) (g .left)) (λ t. readSection Coset (t .card) (t .left))))
     (Err LengthOutOfRange)
+
+abbrev pub isNone : List ℕ → Bool
+isNone [] = true
+isNone (b ∷ bs) = false
+
+abbrev pub noneLeft : Reading → Result Card Refusal
+noneLeft r = cond (isNone (r .left)) (Ok (r .card)) (Err BytesLeftOver)
+
+-- what a file is read as
+abbrev pub readCard : List ℕ → Result Card Refusal
+readCard bytes = onOk (readSections bytes) noneLeft
 
 -- what a call that read up to a place, and filled a card, has read
 abbrev pub readTo : Result ℕ Refusal → Card → List ℕ → Result Reading Refusal

@@ -6,7 +6,7 @@ ghost use Rattle.card.specs.Cards.{sectionRows};
 ghost use Rattle.card_file.specs.Files.{rowBytes, rowOf, rowSize, sectionBytes};
 
 // How many bytes a row takes.
-pub const ROW_SIZE: usize = 8;
+pub(crate) const ROW_SIZE: usize = 8;
 
 // Writes a row as eight bytes.
 fn write_row(out: &mut [u8], at: usize, row: u64)
@@ -17,7 +17,7 @@ fn write_row(out: &mut [u8], at: usize, row: u64)
 }
 
 // Reads a row of eight bytes.
-pub fn read_row(bytes: &[u8], at: usize) -> u64
+pub(crate) fn read_row(bytes: &[u8], at: usize) -> u64
     requires { ⌜ at + rowSize ≤ length (now bytes) ⌝ }
     ensures { λ r. ⌜ r ≡ rowOf (take rowSize (drop at (now (bytes .entry)))) ⌝ }
 {
@@ -27,7 +27,7 @@ pub fn read_row(bytes: &[u8], at: usize) -> u64
 }
 
 // Writes a count byte and rows from `at` on, and tells where they end.
-pub fn write_section(out: &mut [u8], at: usize, rows: &[u64]) -> usize
+pub(crate) fn write_section(out: &mut [u8], at: usize, rows: &[u64]) -> usize
     requires few { ⌜ length (now rows) ≤ sectionRows ⌝ }
     requires room { ⌜ at + 1 + rowSize * length (now rows) ≤ length (now out) ⌝ }
     ensures end { λ r. ⌜ r ≡ at + 1 + rowSize * length (now (rows .entry)) ⌝ }

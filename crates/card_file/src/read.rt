@@ -7,7 +7,8 @@ ghost use Rattle.code.specs.declared.refusal.Section.{Section};
 ghost use Rattle.code.specs.declared.refusal.Section.the-variants.{Group, Transform, Coset};
 ghost use Rattle.card.specs.Cards.{added, Card, verdict};
 ghost use Rattle.card.specs.Tables.{cardOf};
-ghost use Rattle.card_file.specs.Files.{noted, readCard, readRows, readSection, readTo, refilled};
+ghost use Rattle.card_file.specs.FileRows.{RowsAsAdded};
+ghost use Rattle.card_file.specs.Files.{isNone, noted, readCard, readRows, readSection, readSections, readTo, refilled};
 use crate::bytes::ROW_SIZE;
 use crate::bytes::read_row;
 use card::states::CosetCard;
@@ -45,7 +46,7 @@ impl TakesRows for GroupCard as GroupTakes {
     }
 
     fn take(&mut self, row: u64) -> Result<(), Refusal> {
-        self.add_row(row)
+        GroupCard::add_row(self, row)
     }
 }
 
@@ -59,7 +60,7 @@ impl TakesRows for TransformCard as TransformTakes {
     }
 
     fn take(&mut self, row: u64) -> Result<(), Refusal> {
-        self.add_row(row)
+        TransformCard::add_row(self, row)
     }
 }
 
@@ -73,24 +74,50 @@ impl TakesRows for CosetCard as CosetTakes {
     }
 
     fn take(&mut self, row: u64) -> Result<(), Refusal> {
-        self.add_row(row)
+        CosetCard::add_row(self, row)
     }
 }
 
-// Fills the card from a file, or turns the file down and leaves the card as it was.
+// Fills the card from a file, or turns the file down and leaves the card as it was. The rows of the file stand as rows
+// added to a card just started.
 pub fn read_card(bytes: &[u8], into: &mut FinishedCard) -> Result<(), Refusal>
     ensures answer { λ r. ⌜ r ≡ noted (readCard (now (bytes .entry))) ⌝ }
     ensures card { λ _. ⌜ cardOf (now (into .exit) .table) ≡ refilled (readCard (now (bytes .entry))) (cardOf (now (into .entry) .table)) ⌝ }
     ensures refused { λ r. ⌜ Cases r (λ _. Unit {0}) (λ _. now (into .exit) ≡ now (into .entry)) ⌝ }
+    ensures rows { λ _. ⌜ RowsAsAdded (now (bytes .entry)) ⌝ }
 {
+    rows_stand(bytes);
     let card = read_file(bytes)?;
     *into = card;
     Ok(())
 }
 
+// Shows how a file's rows stand; nothing is done.
+fn rows_stand(bytes: &[u8])
+    ensures { λ _. ⌜ RowsAsAdded (now (bytes .entry)) ⌝ }
+{}
+
 // The card that a file describes.
 fn read_file(bytes: &[u8]) -> Result<FinishedCard, Refusal>
     ensures { λ r. ⌜ Cases r (λ k. Ok (cardOf (k .table)) ≡ readCard (now (bytes .entry))) (λ e. Err e ≡ readCard (now (bytes .entry))) ⌝ }
+{
+    let (card, end) = read_sections(bytes)?;
+    if !is_end(bytes, end) {
+        return Err(Refusal::BytesLeftOver);
+    }
+    Ok(card)
+}
+
+// Whether no byte is left from `at` on.
+fn is_end(bytes: &[u8], at: usize) -> bool
+    ensures { λ r. ⌜ r ≡ isNone (drop at (now (bytes .entry))) ⌝ }
+{
+    at >= bytes.len()
+}
+
+// The card that a file's length and sections describe, and where they end.
+fn read_sections(bytes: &[u8]) -> Result<(FinishedCard, usize), Refusal>
+    ensures { λ r. ⌜ Cases r (λ p. Ok (record { card = cardOf (p .0 .table); left = drop (p .1) (now (bytes .entry)) }) ≡ readSections (now (bytes .entry))) (λ e. Err e ≡ readSections (now (bytes .entry))) ⌝ }
 {
     if bytes.len() == 0 {
         return Err(Refusal::BytesEndEarly);
@@ -102,10 +129,7 @@ fn read_file(bytes: &[u8]) -> Result<FinishedCard, Refusal>
     let after_transform = read_section(&mut transform, bytes, after_group)?;
     let mut coset = transform.close_transform();
     let end = read_section(&mut coset, bytes, after_transform)?;
-    if end != bytes.len() {
-        return Err(Refusal::BytesLeftOver);
-    }
-    Ok(coset.finish())
+    Ok((coset.finish(), end))
 }
 
 // Reads a section's count and rows from `at` on, and tells where they end.

@@ -5,9 +5,10 @@ use mathlib.Core.List.{List, [], _∷_, _++_, append-assoc}
 use mathlib.Core.Path.{_≡_, refl, sym, ap, ap₂, _∙_, subst, subst₂}
 use Prim.Native.Nat.{ℕ, zero, suc, _+_, _<_, _≤_}
 use native.Mathlib.Omega.{arith}
-use lib.ListN.{length, take, drop, getD, set}
+use native.Mathlib.Nat.{add-zero}
+use lib.ListN.{length, take, drop, getD, set, length-append}
 use lib.Seq.{getD-set-same, getD-set-other}
-use Rattle.std.proofs.shelf.Lists.{append-nil, take-more, take-more-set, take-set-le, length-take-le}
+use Rattle.std.proofs.shelf.Lists.{append-nil, take-more, take-more-set, take-set-le, length-take-le, take-at, getD-append-add}
 use Rattle.std.specs.declared.option.Option.{Option}
 use Rattle.std.specs.declared.option.Option.the-variants.{Some, None}
 use Rattle.std.specs.declared.result.Result.{Result}
@@ -20,7 +21,7 @@ use Rattle.card_list.specs.declared.requests.Request.the-variants.{AddRow, Mov
 use Rattle.card_list.specs.declared.requests.Answer.{Answer}
 use Rattle.card_list.specs.declared.requests.Answer.the-variants.{Taken, Moved, Refused, Closed}
 use Rattle.card.specs.Cards.{Card, RowTold, Told, added, pushed, rowsOf, sectionOf}
-use Rattle.card_list.specs.Requests.{View, Due, DueIn, DueAt, afterwards, answered, moves, nextOpen, openAfter, rowTaken, taken, takenSince, viewAfter}
+use Rattle.card_list.specs.Requests.{View, Due, DueIn, DueAt, OwnList, afterwards, answered, moves, nextOpen, openAfter, rowTaken, taken, takenSince, viewAfter}
 
 -- ---- one row
 
@@ -49,7 +50,7 @@ pub none-taken : (n : ℕ) (xs : List ℕ) → n ≡ 0 → take n xs ≡ []
 none-taken zero xs e = refl
 none-taken (suc n) xs e = absurd (omega arith)
 
-rows-pushed : (k : Card) (s : Section) (row : ℕ) → Last k s → rowsOf (pushed k s row) ≡ rowsOf k ++ row ∷ []
+pub rows-pushed : (k : Card) (s : Section) (row : ℕ) → Last k s → rowsOf (pushed k s row) ≡ rowsOf k ++ row ∷ []
 rows-pushed k Group row (et, ec) =
     ap₂ (λ (x y : List ℕ). (k .group ++ row ∷ []) ++ (x ++ y)) et ec ∙ append-nil (k .group ++ row ∷ [])
     ∙ sym (ap₂ (λ (x y : List ℕ). (k .group ++ (x ++ y)) ++ row ∷ []) et ec ∙ ap (λ (l : List ℕ). l ++ row ∷ []) (append-nil (k .group)))
@@ -69,7 +70,7 @@ len-pushed k Group row = refl
 len-pushed k Transform row = refl
 len-pushed k Coset row = refl
 
-same-view : {n n′ : ℕ} {o o′ : Option Section} {h h′ a a′ : List ℕ} → n ≡ n′ → o ≡ o′ → h ≡ h′ → a ≡ a′
+pub same-view : {n n′ : ℕ} {o o′ : Option Section} {h h′ a a′ : List ℕ} → n ≡ n′ → o ≡ o′ → h ≡ h′ → a ≡ a′
     → _≡_ {A = View} (record { len = n; open-section = o; here = h; all = a }) (record { len = n′; open-section = o′; here = h′; all = a′ })
 same-view p q r t i = record { len = p i; open-section = q i; here = r i; all = t i }
 
@@ -120,7 +121,7 @@ since-added here (q ∷ rs) [] row a h = absurd (omega arith)
 since-added here (MoveOn ∷ rs) (b ∷ bs) row a h = since-added [] rs bs row a (omega arith)
 since-added here (AddRow r ∷ rs) (b ∷ bs) row a h = since-added (here ++ rowTaken (AddRow r) b) rs bs row a (omega arith)
 
-view-push : (n : ℕ) (rs : List Request) (bs : List Answer) (r : Request) (a : Answer) → length rs ≡ length bs
+pub view-push : (n : ℕ) (rs : List Request) (bs : List Answer) (r : Request) (a : Answer) → length rs ≡ length bs
     → viewAfter n (rs ++ r ∷ []) (bs ++ a ∷ []) ≡ afterwards (viewAfter n rs bs) r a
 view-push n rs bs MoveOn a h =
     same-view refl (ap openAfter (moves-push rs) ∙ opens (moves rs)) (since-moved [] rs bs a h) (taken-push rs bs MoveOn a h ∙ append-nil (taken rs bs))
@@ -151,3 +152,36 @@ own-more n rs bs i a v hb ev due before =
     let ne : j ≢ i = omega arith in
     subst₂ (DueBy n rs j) (sym (take-set-le j bs i a (omega arith))) (sym (getD-set-other bs i j a Closed ne)) (before j h))
     (subst₂ (DueBy n rs i) (sym (take-set-le i bs i a (omega arith))) (sym (getD-set-same bs i a Closed hb)) (subst (λ (x : View). DueIn x (getD rs i MoveOn) a) ev due))
+
+-- ---- a list from some view on
+
+unfoldable pub OwnFrom : View → List Request → List Answer → Type 0
+OwnFrom v [] bs = Unit {0}
+OwnFrom v (r ∷ rs) [] = ⊥
+OwnFrom v (r ∷ rs) (a ∷ bs) = DueIn v r a × OwnFrom (afterwards v r a) rs bs
+
+due-here : (n : ℕ) (ps rs : List Request) (qs bs : List Answer) (r : Request) (a : Answer) → length ps ≡ length qs
+    → DueAt n (ps ++ r ∷ rs) (qs ++ a ∷ bs) (length ps) → DueIn (viewAfter n ps qs) r a
+due-here n ps rs qs bs r a e h =
+    let rest : List Request → List Answer → Request → Answer → Type 0 = λ p q x y. DueIn (viewAfter n p q) x y in
+    let tp : take (length ps) (ps ++ r ∷ rs) ≡ ps = take-at ps (r ∷ rs) (length ps) refl in
+    let tq : take (length ps) (qs ++ a ∷ bs) ≡ qs = take-at qs (a ∷ bs) (length ps) (sym e) in
+    let gr : getD (ps ++ r ∷ rs) (length ps) MoveOn ≡ r = ap (λ (m : ℕ). getD (ps ++ r ∷ rs) m MoveOn) (sym (add-zero (length ps))) ∙ getD-append-add ps (r ∷ rs) 0 MoveOn in
+    let ga : getD (qs ++ a ∷ bs) (length ps) Closed ≡ a = ap (λ (m : ℕ). getD (qs ++ a ∷ bs) m Closed) (e ∙ sym (add-zero (length qs))) ∙ getD-append-add qs (a ∷ bs) 0 Closed in
+    subst₂ (λ (x : Request) (y : Answer). rest ps qs x y) gr ga
+    (subst₂ (λ (p : List Request) (q : List Answer). rest p q (getD (ps ++ r ∷ rs) (length ps) MoveOn) (getD (qs ++ a ∷ bs) (length ps) Closed)) tp tq h)
+
+own-from-after : (n : ℕ) (rs : List Request) (bs : List Answer) (ps : List Request) (qs : List Answer) → length ps ≡ length qs → length rs ≤ length bs
+    → OwnList n (ps ++ rs) (qs ++ bs) → OwnFrom (viewAfter n ps qs) rs bs
+unfolding OwnFrom
+own-from-after n [] bs ps qs e l own = tt
+own-from-after n (r ∷ rs) [] ps qs e l own = absurd (omega arith)
+own-from-after n (r ∷ rs) (a ∷ bs) ps qs e l own = (
+  due-here n ps rs qs bs r a e (own (length ps) (omega (arith, length-append ps (r ∷ rs)))),
+  subst (λ (v : View). OwnFrom v rs bs) (view-push n ps qs r a e)
+      (own-from-after n rs bs (ps ++ r ∷ []) (qs ++ a ∷ []) (omega (arith, length-append ps (r ∷ []), length-append qs (a ∷ []))) (omega arith)
+      (subst₂ (OwnList n) (sym (append-assoc ps (r ∷ []) rs)) (sym (append-assoc qs (a ∷ []) bs)) own)),
+)
+
+pub own-from : (n : ℕ) (rs : List Request) (bs : List Answer) → length rs ≤ length bs → OwnList n rs bs → OwnFrom (viewAfter n [] []) rs bs
+own-from n rs bs l own = own-from-after n rs bs [] [] refl l own

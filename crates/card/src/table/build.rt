@@ -11,7 +11,7 @@ use code::words::word_of;
 
 impl Table {
     // A table with no rows.
-    pub fn new(len: WordLength) -> Table
+    pub(crate) fn new(len: WordLength) -> Table
         ensures card { λ r. ⌜ cardOf r ≡ blank (len .places) ⌝ }
         ensures open { λ r. ⌜ (r .transform ≡ 0) × (r .coset ≡ 0) ⌝ }
     {
@@ -25,7 +25,7 @@ impl Table {
     }
 
     // Adds a row to a section after which none has rows, or turns it down.
-    pub fn push(&mut self, section: Section, row: u64) -> Result<(), Refusal>
+    pub(crate) fn push(&mut self, section: Section, row: u64) -> Result<(), Refusal>
         requires { ⌜ Filling (now self .transform) (now self .coset) section ⌝ }
         ensures answer { λ r. ⌜ r ≡ verdict (cardOf (now (self .entry))) section row ⌝ }
         ensures told { λ r. ⌜ Told (cardOf (now (self .entry))) section row r ⌝ }
@@ -46,7 +46,7 @@ impl Table {
     }
 
     // The code word of a message.
-    pub fn encode(&self, message: u64) -> Result<u64, Refusal>
+    pub(crate) fn encode(&self, message: u64) -> Result<u64, Refusal>
         ensures answer { λ r. ⌜ r ≡ encoded (cardOf (now (self .entry))) message ⌝ }
         ensures distinct { λ r. ⌜ Cases r (λ w. Only (cardOf (now (self .entry))) message w) (λ _. Unit {0}) ⌝ }
     {

@@ -9,7 +9,7 @@ use code::refusal::Section;
 
 impl Table {
     // The length of the card's words.
-    pub fn word_length(&self) -> WordLength
+    pub(crate) fn word_length(&self) -> WordLength
         ensures value { λ r. ⌜ r .places ≡ cardOf (now (self .entry)) .len ⌝ }
         ensures lawful { λ _. ⌜ Lawful (cardOf (now (self .entry))) ⌝ }
     {
@@ -17,7 +17,7 @@ impl Table {
     }
 
     // The rows of a section.
-    pub fn section_rows(&self, section: Section) -> &[u64]
+    pub(crate) fn section_rows(&self, section: Section) -> &[u64]
         ensures value { λ r. ⌜ now r ≡ sectionOf (cardOf (now (self .entry))) section ⌝ }
         ensures few { λ r. ⌜ length (now r) ≤ sectionRows ⌝ }
         ensures lawful { λ _. ⌜ Lawful (cardOf (now (self .entry))) ⌝ }
@@ -31,7 +31,7 @@ impl Table {
     }
 
     // All rows.
-    pub fn all_rows(&self) -> &[u64]
+    pub(crate) fn all_rows(&self) -> &[u64]
         ensures value { λ r. ⌜ now r ≡ rowsOf (cardOf (now (self .entry))) ⌝ }
         ensures few { λ r. ⌜ length (now r) ≤ cardRows ⌝ }
         ensures lawful { λ _. ⌜ Lawful (cardOf (now (self .entry))) ⌝ }
