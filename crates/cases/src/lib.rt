@@ -4,9 +4,9 @@ ghost use Rattle.cases.specs.Worked.{Worked};
 // The worked cases hold; answers how many there are.
 pub fn worked_cases() -> u8
     ensures proved { λ _. ⌜ Worked ⌝ }
-    ensures count { λ r. ⌜ r ≡ 4 ⌝ }
+    ensures count { λ r. ⌜ r ≡ 8 ⌝ }
 {
-    4
+    8
 }
 
 #[cfg(test)]
@@ -24,6 +24,10 @@ mod tests {
     use reading::level::LevelReading;
     use reading::two_head::TwoHead;
     use reading::two_head::TwoHeadReading;
+    use sample::Pair;
+    use sample::Sample;
+    use sample::check_samples;
+    use sample::level::label;
     use std::test::*;
 
     // The number of a refused call, or 0.
@@ -113,6 +117,38 @@ mod tests {
         let mut most = [level(limit), level(0)];
         check(number(transform(&mut most)) == 0)?;
         check(most[1].value == limit)
+    }
+
+    // The label of a level given by its bits, or 2000 where it has none.
+    fn label_of(bits: u32) -> i32 {
+        label(f32::from_bits(bits)).unwrap_or(2000)
+    }
+
+    #[test]
+    fn labels_of_levels() -> Result<(), Fail> {
+        check(label(0.5) == Some(512) && label(-0.5) == Some(-512))?;
+        check(label_of(0x3a800000) == 1 && label_of(0x3a000000) == 0)?;
+        check(label_of(0x80000000) == 0 && label_of(0x3f800000) == 1024)?;
+        check(label_of(0xbf800000) == -1024 && label_of(0x3f7fffff) == 1023)?;
+        check(label_of(0x3f800001) == 2000 && label_of(0x7fc00000) == 2000)?;
+        check(label_of(0x7f800000) == 2000 && label_of(0xff800000) == 2000)
+    }
+
+    #[test]
+    fn first_bad_samples() -> Result<(), Fail> {
+        let good = Pair {
+            main: 0.25,
+            second: -1.0,
+        };
+        let bad = Pair {
+            main: 0.25,
+            second: 1.5,
+        };
+        check(number(check_samples(&[Sample::Bit(1), Sample::Pair(good), Sample::Dropout])) == 0)?;
+        check(number(check_samples(&[Sample::Dropout, Sample::Bit(2), Sample::Level(2.0)])) == 10)?;
+        check(number(check_samples(&[Sample::Level(-1.5), Sample::Bit(2)])) == 11)?;
+        check(number(check_samples(&[Sample::Pair(good), Sample::Pair(bad)])) == 11)?;
+        check(number(check_samples(&[])) == 0)
     }
 
     #[test]
