@@ -4,9 +4,9 @@ ghost use Rattle.cases.specs.Worked.{Worked};
 // The worked cases hold; answers how many there are.
 pub fn worked_cases() -> u8
     ensures proved { λ _. ⌜ Worked ⌝ }
-    ensures count { λ r. ⌜ r ≡ 8 ⌝ }
+    ensures count { λ r. ⌜ r ≡ 16 ⌝ }
 {
-    8
+    16
 }
 
 #[cfg(test)]
