@@ -78,8 +78,8 @@ Keeps Group here row = Concur (here ++ row ∷ [])
 Keeps Transform here row = Unit {0}
 Keeps Coset here row = Unit {0}
 
--- what a row is told, which stands for the answer x: `yes`, or `no` with the refusal. The section is s, which has the
--- rows `here`, and the card has the rows `all`. Every case is named, and no two of them meet.
+-- x is what a row is told that is handed to section s of a card: `yes`, or `no` with a refusal. The section has the rows
+-- `here`, the card the rows `all`, its words n places. Of the five cases just one applies.
 pub record RowTold {X : Type 0} (yes : X) (no : Refusal → X) (n : ℕ) (s : Section) (here all : List ℕ) (row : ℕ) (x : X) : Type 0 where
   pub beyond : 2 ^ n ≤ row → x ≡ no (DigitBeyondLength s (length here))
   pub full : row < 2 ^ n → sectionRows ≤ length here → x ≡ no (SectionFull s)
@@ -87,7 +87,7 @@ pub record RowTold {X : Type 0} (yes : X) (no : Refusal → X) (n : ℕ) (s : Se
   pub broken : row < 2 ^ n → length here < sectionRows → (Span all row → ⊥) → (Keeps s here row → ⊥) → x ≡ no (ConcurrenceBroken s (length here))
   pub taken : row < 2 ^ n → length here < sectionRows → (Span all row → ⊥) → Keeps s here row → x ≡ yes
 
--- what a row is told that is added to a section of a card
+-- r is what a row is told that is handed to section s of the card k
 abbrev pub Told : Card → Section → ℕ → Result (Unit {0}) Refusal → Type 0
 Told k s row r = RowTold (Ok tt) (λ e. Err e) (k .len) s (sectionOf k s) (rowsOf k) row r
 

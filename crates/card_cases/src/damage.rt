@@ -63,159 +63,79 @@ fn changed(at: usize, byte: u8) -> Result<[u8; E_BYTES], Refusal> {
     Ok(bytes)
 }
 
-// A byte to change, and the refusal that it brings.
-#[derive(Drop)]
-struct Damage {
-    at: usize,
-    byte: u8,
-    due: Refusal,
+// The file with one byte changed gets that refusal.
+fn case(at: usize, byte: u8, due: Refusal) -> Result<(), Failure> {
+    expect(refused_with(&changed(at, byte)?, due)?)
 }
 
+fn beyond(section: Section, index: usize) -> Refusal {
+    Refusal::DigitBeyondLength { section, index }
+}
+
+fn dependent(section: Section, index: usize) -> Refusal {
+    Refusal::DependentRow { section, index }
+}
+
+// Damaged lengths.
+fn lengths() -> Result<(), Failure> {
+    case(0, 0, Refusal::LengthOutOfRange)?;
+    case(0, 65, Refusal::LengthOutOfRange)?;
+    case(0, 255, Refusal::LengthOutOfRange)?;
+    case(0, 1, beyond(Section::Group, 0))?;
+    case(0, 4, beyond(Section::Coset, 0))
+}
+
+// Damaged counts, at bytes 1, 18 and 27.
+fn counts() -> Result<(), Failure> {
+    case(
+        1,
+        9,
+        Refusal::SectionFull {
+            section: Section::Group,
+        },
+    )?;
+    case(
+        18,
+        9,
+        Refusal::SectionFull {
+            section: Section::Transform,
+        },
+    )?;
+    case(
+        27,
+        200,
+        Refusal::SectionFull {
+            section: Section::Coset,
+        },
+    )?;
+    case(1, 8, beyond(Section::Group, 2))?;
+    case(27, 2, Refusal::BytesEndEarly)?;
+    case(27, 0, Refusal::BytesLeftOver)
+}
+
+// Damaged rows, at bytes 2, 10, 19 and 28.
+fn rows() -> Result<(), Failure> {
+    case(2, 0, dependent(Section::Group, 0))?;
+    case(10, 3, dependent(Section::Group, 1))?;
+    case(10, 32, beyond(Section::Group, 1))?;
+    case(17, 128, beyond(Section::Group, 1))?;
+    case(19, 5, dependent(Section::Transform, 0))?;
+    case(26, 1, beyond(Section::Transform, 0))?;
+    case(28, 9, dependent(Section::Coset, 0))?;
+    case(29, 1, beyond(Section::Coset, 0))?;
+    expect(broken_group()?)
+}
+
+// How many damaged files are tried.
+const DAMAGED: usize = 21;
+
 pub(crate) fn damaged() -> Result<usize, Failure> {
-    let cases = [
-        Damage {
-            at: 0,
-            byte: 0,
-            due: Refusal::LengthOutOfRange,
-        },
-        Damage {
-            at: 0,
-            byte: 65,
-            due: Refusal::LengthOutOfRange,
-        },
-        Damage {
-            at: 0,
-            byte: 255,
-            due: Refusal::LengthOutOfRange,
-        },
-        Damage {
-            at: 0,
-            byte: 1,
-            due: Refusal::DigitBeyondLength {
-                section: Section::Group,
-                index: 0,
-            },
-        },
-        Damage {
-            at: 0,
-            byte: 4,
-            due: Refusal::DigitBeyondLength {
-                section: Section::Coset,
-                index: 0,
-            },
-        },
-        Damage {
-            at: 1,
-            byte: 9,
-            due: Refusal::SectionFull {
-                section: Section::Group,
-            },
-        },
-        Damage {
-            at: 18,
-            byte: 9,
-            due: Refusal::SectionFull {
-                section: Section::Transform,
-            },
-        },
-        Damage {
-            at: 27,
-            byte: 200,
-            due: Refusal::SectionFull {
-                section: Section::Coset,
-            },
-        },
-        Damage {
-            at: 1,
-            byte: 8,
-            due: Refusal::DigitBeyondLength {
-                section: Section::Group,
-                index: 2,
-            },
-        },
-        Damage {
-            at: 27,
-            byte: 2,
-            due: Refusal::BytesEndEarly,
-        },
-        Damage {
-            at: 27,
-            byte: 0,
-            due: Refusal::BytesLeftOver,
-        },
-        Damage {
-            at: 2,
-            byte: 0,
-            due: Refusal::DependentRow {
-                section: Section::Group,
-                index: 0,
-            },
-        },
-        Damage {
-            at: 10,
-            byte: 3,
-            due: Refusal::DependentRow {
-                section: Section::Group,
-                index: 1,
-            },
-        },
-        Damage {
-            at: 10,
-            byte: 32,
-            due: Refusal::DigitBeyondLength {
-                section: Section::Group,
-                index: 1,
-            },
-        },
-        Damage {
-            at: 17,
-            byte: 128,
-            due: Refusal::DigitBeyondLength {
-                section: Section::Group,
-                index: 1,
-            },
-        },
-        Damage {
-            at: 19,
-            byte: 5,
-            due: Refusal::DependentRow {
-                section: Section::Transform,
-                index: 0,
-            },
-        },
-        Damage {
-            at: 26,
-            byte: 1,
-            due: Refusal::DigitBeyondLength {
-                section: Section::Transform,
-                index: 0,
-            },
-        },
-        Damage {
-            at: 28,
-            byte: 9,
-            due: Refusal::DependentRow {
-                section: Section::Coset,
-                index: 0,
-            },
-        },
-        Damage {
-            at: 29,
-            byte: 1,
-            due: Refusal::DigitBeyondLength {
-                section: Section::Coset,
-                index: 0,
-            },
-        },
-    ];
-    let count = cases.len();
-    for damage in cases {
-        expect(refused_with(&changed(damage.at, damage.byte)?, damage.due)?)?;
-    }
-    expect(broken_group()?)?;
+    lengths()?;
+    counts()?;
+    rows()?;
     expect(byte_too_many()?)?;
     expect(longest_length()?)?;
-    Ok(count + 2)
+    Ok(DAMAGED)
 }
 
 // Group rows 3, 6 and 9: the third breaks concurrence.
@@ -248,67 +168,70 @@ fn longest_length() -> Result<bool, Refusal> {
     Ok(card.word_length().places() == 64 && card.rows() == code_e()?.rows())
 }
 
-// Code E as a list of requests, with refused ones between, and what they are answered.
+fn add(row: u64) -> Request {
+    Request::AddRow { row }
+}
+
+fn refused(refusal: Refusal) -> Answer {
+    Answer::Refused { refusal }
+}
+
+// How many requests are made.
+const REQUESTS: usize = 13;
+
+// Code E as a list of requests, with ones between that are refused.
+fn requests() -> [Request; REQUESTS] {
+    [
+        add(3),
+        add(6),
+        add(5),
+        add(9),
+        add(32),
+        Request::MoveOn,
+        add(12),
+        add(0),
+        Request::MoveOn,
+        add(17),
+        Request::MoveOn,
+        add(2),
+        Request::MoveOn,
+    ]
+}
+
+// What they are answered.
+fn due() -> [Answer; REQUESTS] {
+    let broken = Refusal::ConcurrenceBroken {
+        section: Section::Group,
+        index: 2,
+    };
+    [
+        Answer::Taken,
+        Answer::Taken,
+        refused(dependent(Section::Group, 2)),
+        refused(broken),
+        refused(beyond(Section::Group, 2)),
+        Answer::Moved,
+        Answer::Taken,
+        refused(dependent(Section::Transform, 1)),
+        Answer::Moved,
+        Answer::Taken,
+        Answer::Moved,
+        Answer::Closed,
+        Answer::Closed,
+    ]
+}
+
+// Runs the list, and once more with too little memory for the answers.
 pub(crate) fn own_list() -> Result<usize, Failure> {
-    let requests = [
-        Request::AddRow { row: 3 },
-        Request::AddRow { row: 6 },
-        Request::AddRow { row: 5 },
-        Request::AddRow { row: 9 },
-        Request::AddRow { row: 32 },
-        Request::MoveOn,
-        Request::AddRow { row: 12 },
-        Request::AddRow { row: 0 },
-        Request::MoveOn,
-        Request::AddRow { row: 17 },
-        Request::MoveOn,
-        Request::AddRow { row: 2 },
-        Request::MoveOn,
-    ];
-    let due = [
-        Answer::Taken,
-        Answer::Taken,
-        Answer::Refused {
-            refusal: Refusal::DependentRow {
-                section: Section::Group,
-                index: 2,
-            },
-        },
-        Answer::Refused {
-            refusal: Refusal::ConcurrenceBroken {
-                section: Section::Group,
-                index: 2,
-            },
-        },
-        Answer::Refused {
-            refusal: Refusal::DigitBeyondLength {
-                section: Section::Group,
-                index: 2,
-            },
-        },
-        Answer::Moved,
-        Answer::Taken,
-        Answer::Refused {
-            refusal: Refusal::DependentRow {
-                section: Section::Transform,
-                index: 1,
-            },
-        },
-        Answer::Moved,
-        Answer::Taken,
-        Answer::Moved,
-        Answer::Closed,
-        Answer::Closed,
-    ];
     let mut answers = [Answer::Closed; 14];
-    let count = run_requests(WordLength::new(5)?, &requests, &mut answers)?;
-    expect(count == requests.len())?;
-    for (i, answer) in due.iter().enumerate() {
+    let count = run_requests(WordLength::new(5)?, &requests(), &mut answers)?;
+    expect(count == REQUESTS)?;
+    for (i, answer) in due().iter().enumerate() {
         expect(answers[i] == *answer)?;
     }
     let mut few = [Answer::Closed; 12];
-    match run_requests(WordLength::new(5)?, &requests, &mut few) {
-        Err(Refusal::OutputShort) => Ok(count),
+    match run_requests(WordLength::new(5)?, &requests(), &mut few) {
+        Err(Refusal::OutputShort) => Ok(REQUESTS),
         _ => Err(Failure::Differs),
     }
 }

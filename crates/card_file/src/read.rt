@@ -28,9 +28,11 @@ trait TakesRows {
 
     ghost part: { Section };
 
+    // The section.
     fn section(&self) -> Section
         ensures { λ r. ⌜ r ≡ part ⌝ };
 
+    // Adds a row, or turns it down.
     fn take(&mut self, row: u64) -> Result<(), Refusal>
         ensures answer { λ r. ⌜ r ≡ verdict (shown (now (self .entry))) part row ⌝ }
         ensures card { λ r. ⌜ shown (now (self .exit)) ≡ added r (shown (now (self .entry))) part row ⌝ };

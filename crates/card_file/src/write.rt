@@ -22,6 +22,7 @@ pub fn write_card(card: &FinishedCard, out: &mut [u8]) -> Result<usize, Refusal>
     write_file(card, out)
 }
 
+// The file, section by section.
 fn write_file(card: &FinishedCard, out: &mut [u8]) -> Result<usize, Refusal>
     ensures answer { λ r. ⌜ r ≡ wrote (fileOf (cardOf (now (card .entry) .table))) (length (now (out .entry))) ⌝ }
     ensures bytes { λ _. ⌜ now (out .exit) ≡ overwritten (fileOf (cardOf (now (card .entry) .table))) (now (out .entry)) ⌝ }

@@ -57,6 +57,7 @@ pub fn run_requests(
     Ok(requests.len())
 }
 
+// Hands the requests to a card just started, one after the other.
 fn answer_all(len: WordLength, requests: &[Request], answers: &mut [Answer])
     requires { ⌜ length (now requests) ≤ length (now answers) ⌝ }
     ensures law { λ _. ⌜ OwnList (len .places) (now (requests .entry)) (now (answers .exit)) ⌝ }
@@ -81,6 +82,7 @@ fn answer_one(card: AnyCard, request: Request) -> (AnyCard, Answer)
     }
 }
 
+// The card after a row was handed to it, and the answer.
 fn add_row(card: AnyCard, row: u64) -> (AnyCard, Answer)
     ensures due { λ r. ⌜ DueIn (viewOf card) (Request.AddRow row) (r .1) ⌝ }
     ensures view { λ r. ⌜ viewOf (r .0) ≡ afterwards (viewOf card) (Request.AddRow row) (r .1) ⌝ }
@@ -102,6 +104,7 @@ fn add_row(card: AnyCard, row: u64) -> (AnyCard, Answer)
     }
 }
 
+// The card in its next state, and the answer.
 fn move_on(card: AnyCard) -> (AnyCard, Answer)
     ensures due { λ r. ⌜ DueIn (viewOf card) Request.MoveOn (r .1) ⌝ }
     ensures view { λ r. ⌜ viewOf (r .0) ≡ afterwards (viewOf card) Request.MoveOn (r .1) ⌝ }
@@ -117,6 +120,7 @@ fn move_on(card: AnyCard) -> (AnyCard, Answer)
     }
 }
 
+// The answer that tells the result of adding a row.
 fn answer_of(result: Result<(), Refusal>) -> Answer
     ensures { λ r. ⌜ r ≡ answered result ⌝ }
 {
