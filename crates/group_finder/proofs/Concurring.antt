@@ -34,16 +34,16 @@ tally-one i [] h = absurd (omega arith)
 tally-one i (r ∷ rs) h =
     ⊎-elim
     (λ (d : digit i r ≡ 0).
-        let t : tally i rs ≡ 1 = omega arith in
-        let k = tally-one i rs t in
-        let l = k .1 .0 in
-        let e = k .1 .1 in
-        let p = pow-succ' 2 (k .0) in
-        (suc (k .0), (omega arith, omega arith)))
+    let t : tally i rs ≡ 1 = omega arith in
+    let k = tally-one i rs t in
+    let l = k .1 .0 in
+    let e = k .1 .1 in
+    let p = pow-succ' 2 (k .0) in
+    (suc (k .0), (omega arith, omega arith)))
     (λ (d : digit i r ≡ 1).
-        let t : tally i rs ≡ 0 = omega arith in
-        let c = tally-none i rs t in
-        (0, (omega arith, omega arith)))
+    let t : tally i rs ≡ 0 = omega arith in
+    let c = tally-none i rs t in
+    (0, (omega arith, omega arith)))
     (digit-two (digit i r) (digit-below i r))
 
 tally-all : (i : ℕ) (rows : List ℕ) → tally i rows ≡ length rows → column rows i ≡ 2 ^ length rows - 1
@@ -82,9 +82,9 @@ last-slot J c d z p =
     ⊎-elim
     (λ e. absurd (z e))
     (λ r. ⊎-elim
-        (λ k. absurd (p (k .0) (k .1 .0) (k .1 .1)))
-        (λ e. inr (inr (two J c e z p, e, refl)))
-        r)
+    (λ k. absurd (p (k .0) (k .1 .0) (k .1 .1)))
+    (λ e. inr (inr (two J c e z p, e, refl)))
+    r)
     d
   where
     two : (J c : ℕ) → c ≡ 2 ^ J - 1 → (c ≡ 0 → ⊥) → ((k : ℕ) → k < J → c ≡ 2 ^ k → ⊥) → 2 ≤ J

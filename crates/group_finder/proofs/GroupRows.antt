@@ -23,20 +23,22 @@ use Rattle.group_finder.proofs.Sizes.{totalled-le}
 
 module _ {R : Type 0} (weight : R → ℤ) (size : R → ℕ) (S : ℕ → ℤ) (bulk : ℕ → ℕ) (j : ℕ) (s : R) (ws : weight s ≡ S j) (zs : size s ≡ bulk j) (bit : ℕ) (eb : bit ≡ 2 ^ j) where
   one-row : (p : Bool) (m : ℕ) (a : R) (n : ℕ) (b : R) (k : ℕ) (r : R) → TopOf (ofParity p) (signs S j) (2 ^ j) m → TopOf (ofParity (not p)) (signs S j) (2 ^ j) n → weight a ≡ signs S j m → weight b ≡ signs S j n
-    → Extended weight size m a n b s bit k r → TopOf (ofParity p) (signs S (j + 1)) (2 ^ (j + 1)) k × (weight r ≡ signs S (j + 1) k)
+      → Extended weight size m a n b s bit k r → TopOf (ofParity p) (signs S (j + 1)) (2 ^ (j + 1)) k × (weight r ≡ signs S (j + 1) k)
   one-row p m a n b k r t u wa wb e =
       by-ltZ (weight a +ℤ weight s) (weight b +ℤ negℤ (weight s))
-        (λ h.
-          let x = e .takes h in
-          let y = row-takes S p j m n t u (omega (arith, ints)) in
-          let kn : k ≡ n + 2 ^ j = x .0 ∙ ap (λ (z : ℕ). n + z) eb in
-          (subst (λ (z : ℕ). TopOf (ofParity p) (signs S (j + 1)) (2 ^ (j + 1)) z) (sym kn) (y .0),
-           x .1 ∙ ap₂ (λ u v. u +ℤ negℤ v) wb ws ∙ sym (y .1) ∙ ap (signs S (j + 1)) (sym kn)))
-        (λ h.
-          let x = e .keeps h in
-          let y = row-keeps S p j m n t u (omega (arith, ints)) in
-          (subst (λ (z : ℕ). TopOf (ofParity p) (signs S (j + 1)) (2 ^ (j + 1)) z) (sym (x .0)) (y .0),
-           x .1 ∙ ap₂ (λ u v. u +ℤ v) wa ws ∙ sym (y .1) ∙ ap (signs S (j + 1)) (sym (x .0))))
+      (λ h.
+      let x = e .takes h in
+      let y = row-takes S p j m n t u (omega (arith, ints)) in
+      let kn : k ≡ n + 2 ^ j = x .0 ∙ ap (λ (z : ℕ). n + z) eb in (
+        subst (λ (z : ℕ). TopOf (ofParity p) (signs S (j + 1)) (2 ^ (j + 1)) z) (sym kn) (y .0),
+        x .1 ∙ ap₂ (λ u v. u +ℤ negℤ v) wb ws ∙ sym (y .1) ∙ ap (signs S (j + 1)) (sym kn),
+      ))
+      (λ h.
+      let x = e .keeps h in
+      let y = row-keeps S p j m n t u (omega (arith, ints)) in (
+        subst (λ (z : ℕ). TopOf (ofParity p) (signs S (j + 1)) (2 ^ (j + 1)) z) (sym (x .0)) (y .0),
+        x .1 ∙ ap₂ (λ u v. u +ℤ v) wa ws ∙ sym (y .1) ∙ ap (signs S (j + 1)) (sym (x .0)),
+      ))
 
   pub parity-step : (m : ℕ) (a : R) (n : ℕ) (b : R) → ByParity weight size S bulk j m a n b → (k : ℕ) (r : R) (l : ℕ) (q : R) → Extended weight size m a n b s bit k r → Extended weight size n b m a s bit l q → ByParity weight size S bulk (j + 1) k r l q
   parity-step m a n b inv k r l q e f =
@@ -73,15 +75,15 @@ index-below q n span t a b = digits-lt a b
 -- the group rows are done
 module _ {R : Type 0} (weight : R → ℤ) (size : R → ℕ) (w : ℕ → ℤ) (bulk : ℕ → ℕ) (J : ℕ) (m : ℕ) (a : R) (n : ℕ) (b : R) (inv : ByParity weight size (λ i. w (i + 1)) bulk J m a n b) where
   pub settled : (up down best r : R) (k : ℕ) → weight up ≡ weight a +ℤ w (J + 1) → weight down ≡ weight b +ℤ negℤ (w (J + 1)) → Chosen weight m up n down k best → weight r ≡ w 0 +ℤ weight best
-    → Top (choiceValue w J) (2 ^ J) k × (weight r ≡ choiceValue w J k)
+      → Top (choiceValue w J) (2 ^ J) k × (weight r ≡ choiceValue w J k)
   settled up down best r k wu wd c wr =
       let eu : weight up ≡ signs (λ i. w (i + 1)) J m +ℤ w (J + 1) = wu ∙ ap (λ z. z +ℤ w (J + 1)) (inv .evenWeighs) in
       let ed : weight down ≡ signs (λ i. w (i + 1)) J n +ℤ negℤ (w (J + 1)) = wd ∙ ap (λ z. z +ℤ negℤ (w (J + 1))) (inv .oddWeighs) in
       ⊎-elim
-        (λ h.
-          let x = best-even w J m n (inv .even) (inv .odd) (weight up) (weight down) eu ed (h .2) in
-          (subst (λ (z : ℕ). Top (choiceValue w J) (2 ^ J) z) (sym (h .0)) (x .0), wr ∙ ap (λ z. w 0 +ℤ weight z) (h .1) ∙ sym (x .1) ∙ ap (choiceValue w J) (sym (h .0))))
-        (λ h.
-          let x = best-odd w J m n (inv .even) (inv .odd) (weight up) (weight down) eu ed (h .2) in
-          (subst (λ (z : ℕ). Top (choiceValue w J) (2 ^ J) z) (sym (h .0)) (x .0), wr ∙ ap (λ z. w 0 +ℤ weight z) (h .1) ∙ sym (x .1) ∙ ap (choiceValue w J) (sym (h .0))))
-        c
+      (λ h.
+      let x = best-even w J m n (inv .even) (inv .odd) (weight up) (weight down) eu ed (h .2) in
+      (subst (λ (z : ℕ). Top (choiceValue w J) (2 ^ J) z) (sym (h .0)) (x .0), wr ∙ ap (λ z. w 0 +ℤ weight z) (h .1) ∙ sym (x .1) ∙ ap (choiceValue w J) (sym (h .0))))
+      (λ h.
+      let x = best-odd w J m n (inv .even) (inv .odd) (weight up) (weight down) eu ed (h .2) in
+      (subst (λ (z : ℕ). Top (choiceValue w J) (2 ^ J) z) (sym (h .0)) (x .0), wr ∙ ap (λ z. w 0 +ℤ weight z) (h .1) ∙ sym (x .1) ∙ ap (choiceValue w J) (sym (h .0))))
+      c

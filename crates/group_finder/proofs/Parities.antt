@@ -33,8 +33,8 @@ module _ (P Q : ℕ → Bool) (f : ℕ → ℤ) (a b m n : ℕ) (same : (i : ℕ
     within = let w = t .within in omega arith;
     admitted = t .admitted;
     greatest = λ j k p. by-below j a
-      (λ l. t .greatest j l p)
-      (λ i e. let x = u .greatest i (omega arith) (moved j i e (omega arith) p) in let y : f (i + a) ≡ f j = ap f (sym e) in omega (arith, ints));
+        (λ l. t .greatest j l p)
+        (λ i e. let x = u .greatest i (omega arith) (moved j i e (omega arith) p) in let y : f (i + a) ≡ f j = ap f (sym e) in omega (arith, ints));
     smallest = t .smallest;
   }
 
@@ -43,11 +43,11 @@ module _ (P Q : ℕ → Bool) (f : ℕ → ℤ) (a b m n : ℕ) (same : (i : ℕ
     within = let w = u .within in omega arith;
     admitted = sym (same n (u .within)) ∙ u .admitted;
     greatest = λ j k p. by-below j a
-      (λ l. let x = t .greatest j l p in omega (arith, ints))
-      (λ i e. let x = u .greatest i (omega arith) (moved j i e (omega arith) p) in let y : f (i + a) ≡ f j = ap f (sym e) in omega (arith, ints));
+        (λ l. let x = t .greatest j l p in omega (arith, ints))
+        (λ i e. let x = u .greatest i (omega arith) (moved j i e (omega arith) p) in let y : f (i + a) ≡ f j = ap f (sym e) in omega (arith, ints));
     smallest = λ j k p. by-below j a
-      (λ l. let x = t .greatest j l p in omega (arith, ints))
-      (λ i e. let w = u .within in let x = u .smallest i (omega arith) (moved j i e (omega arith) p) in let y : f (i + a) ≡ f j = ap f (sym e) in omega (arith, ints));
+        (λ l. let x = t .greatest j l p in omega (arith, ints))
+        (λ i e. let w = u .within in let x = u .smallest i (omega arith) (moved j i e (omega arith) p) in let y : f (i + a) ≡ f j = ap f (sym e) in omega (arith, ints));
   }
 
 -- the same best for a function with the same differences
@@ -71,7 +71,7 @@ module _ (P : ℕ → Bool) (f : ℕ → ℤ) (b m n : ℕ) (t : TopOf (λ s. no
     within = t .within;
     greatest = λ j l. by-side j (λ p. t .greatest j l p) (λ p. let x = u .greatest j l p in ⊎-elim (λ k. omega (arith, ints)) (λ k. let y = k .0 in omega (arith, ints)) h);
     smallest = λ j l. by-side j (λ p. t .smallest j l p) (λ p. let w = t .within in let lb : j < b = omega arith in let x = u .greatest j lb p in
-      ⊎-elim (λ k. omega (arith, ints)) (λ k. let y = k .0 in let z = k .1 in let ln : j < n = omega arith in let v = u .smallest j ln p in omega (arith, ints)) h);
+        ⊎-elim (λ k. omega (arith, ints)) (λ k. let y = k .0 in let z = k .1 in let ln : j < n = omega arith in let v = u .smallest j ln p in omega (arith, ints)) h);
   }
 
   pub join-second : (f m <ℤ f n) ⊎ ((f m ≤ℤ f n) × (n ≤ m)) → Top f b n
@@ -79,7 +79,7 @@ module _ (P : ℕ → Bool) (f : ℕ → ℤ) (b m n : ℕ) (t : TopOf (λ s. no
     within = u .within;
     greatest = λ j l. by-side j (λ p. let x = t .greatest j l p in ⊎-elim (λ k. omega (arith, ints)) (λ k. let y = k .0 in omega (arith, ints)) h) (λ p. u .greatest j l p);
     smallest = λ j l. by-side j (λ p. let w = u .within in let lb : j < b = omega arith in let x = t .greatest j lb p in
-      ⊎-elim (λ k. omega (arith, ints)) (λ k. let y = k .0 in let z = k .1 in let ln : j < m = omega arith in let v = t .smallest j ln p in omega (arith, ints)) h) (λ p. u .smallest j l p);
+        ⊎-elim (λ k. omega (arith, ints)) (λ k. let y = k .0 in let z = k .1 in let ln : j < m = omega arith in let v = t .smallest j ln p in omega (arith, ints)) h) (λ p. u .smallest j l p);
   }
 
 -- digits of s + 2 ^ j
@@ -101,8 +101,8 @@ signs-low S j s h = ap (λ (d : ℕ). signs S j s +ℤ negatedIf (odd d) (S j)) 
 pub signs-high : (S : ℕ → ℤ) (j s : ℕ) → s < 2 ^ j → signs S (suc j) (s + 2 ^ j) ≡ signs S j s +ℤ negℤ (S j)
 signs-high S j s h =
     ap₂ (λ x (d : ℕ). x +ℤ negatedIf (odd d) (S j))
-      (summed-ext j _ _ (λ i l. ap (λ (b : Bool). negatedIf b (S i)) (low-digit i j s l)))
-      (high-digit j s h)
+    (summed-ext j _ _ (λ i l. ap (λ (b : Bool). negatedIf b (S i)) (low-digit i j s l)))
+    (high-digit j s h)
 
 pub parity-high : (j s : ℕ) → s < 2 ^ j → parity (s + 2 ^ j) ≡ not (parity s)
 parity-high j s h =
@@ -172,7 +172,7 @@ first-even S = record {
   within = omega arith;
   admitted = ap not parity-0;
   greatest = λ j l p. ⊎-elim (λ (e : j ≡ 0). subst (λ (k : ℕ). signs S 1 k ≤ℤ signs S 1 0) (sym e) (≤ℤ-refl (signs S 1 0)))
-    (λ n. let e : j ≡ 1 = omega arith in differs 1 _ parity-1 (ap parity (sym e) ∙ not-true (parity j) p)) (cases-eq j 0);
+      (λ n. let e : j ≡ 1 = omega arith in differs 1 _ parity-1 (ap parity (sym e) ∙ not-true (parity j) p)) (cases-eq j 0);
   smallest = λ j l p. absurd (omega arith);
 }
 
@@ -181,7 +181,7 @@ first-odd S = record {
   within = omega arith;
   admitted = parity-1;
   greatest = λ j l p. ⊎-elim (λ (e : j ≡ 1). subst (λ (k : ℕ). signs S 1 k ≤ℤ signs S 1 1) (sym e) (≤ℤ-refl (signs S 1 1)))
-    (λ n. let e : j ≡ 0 = omega arith in differs 0 _ (ap parity (sym e) ∙ p) parity-0) (cases-eq j 1);
+      (λ n. let e : j ≡ 0 = omega arith in differs 0 _ (ap parity (sym e) ∙ p) parity-0) (cases-eq j 1);
   smallest = λ j l p. let e : j ≡ 0 = omega arith in differs 0 _ (ap parity (sym e) ∙ p) parity-0;
 }
 
@@ -207,14 +207,14 @@ module _ (w : ℕ → ℤ) (J : ℕ) where
     all-odd = of-shift (ofParity true) (signs (λ i. w (i + 1)) J) (choiceValue w J) (w 0 +ℤ negℤ (w (J + 1))) (2 ^ J) n (λ i _ p. odd-value i p) u
 
     pub best-even : (a b : ℤ) → a ≡ signs (λ i. w (i + 1)) J m +ℤ w (J + 1) → b ≡ signs (λ i. w (i + 1)) J n +ℤ negℤ (w (J + 1)) → (b <ℤ a) ⊎ ((b ≤ℤ a) × (m < n))
-      → Top (choiceValue w J) (2 ^ J) m × (choiceValue w J m ≡ w 0 +ℤ a)
+        → Top (choiceValue w J) (2 ^ J) m × (choiceValue w J m ≡ w 0 +ℤ a)
     best-even a b ea eb h =
         let vm = even-value m (not-true (parity m) (t .admitted)) in
         let vn = odd-value n (u .admitted) in
         (join-first parity (choiceValue w J) (2 ^ J) m n all-even all-odd (⊎-elim (λ k. inl (omega (arith, ints))) (λ k. let x = k .0 in inr (omega (arith, ints), k .1)) h), omega (arith, ints))
 
     pub best-odd : (a b : ℤ) → a ≡ signs (λ i. w (i + 1)) J m +ℤ w (J + 1) → b ≡ signs (λ i. w (i + 1)) J n +ℤ negℤ (w (J + 1)) → (a <ℤ b) ⊎ ((a ≤ℤ b) × (n ≤ m))
-      → Top (choiceValue w J) (2 ^ J) n × (choiceValue w J n ≡ w 0 +ℤ b)
+        → Top (choiceValue w J) (2 ^ J) n × (choiceValue w J n ≡ w 0 +ℤ b)
     best-odd a b ea eb h =
         let vm = even-value m (not-true (parity m) (t .admitted)) in
         let vn = odd-value n (u .admitted) in
@@ -222,6 +222,7 @@ module _ (w : ℕ → ℤ) (J : ℕ) where
 
 -- no group row
 pub none-best : (w : ℕ → ℤ) → Top (choiceValue w 0) (2 ^ 0) 0 × (choiceValue w 0 0 ≡ w 0 +ℤ w 1)
-none-best w =
-    (record { within = omega arith; greatest = λ j l. let e : 0 ≡ j = omega arith in subst (λ (k : ℕ). choiceValue w 0 k ≤ℤ choiceValue w 0 0) e (≤ℤ-refl (choiceValue w 0 0)); smallest = λ j l. absurd (omega arith) },
-     ap (λ (b : Bool). w 0 +ℤ (pos 0 +ℤ negatedIf b (w 1))) parity-0 ∙ omega (arith, ints))
+none-best w = (
+  record { within = omega arith; greatest = λ j l. let e : 0 ≡ j = omega arith in subst (λ (k : ℕ). choiceValue w 0 k ≤ℤ choiceValue w 0 0) e (≤ℤ-refl (choiceValue w 0 0)); smallest = λ j l. absurd (omega arith) },
+  ap (λ (b : Bool). w 0 +ℤ (pos 0 +ℤ negatedIf b (w 1))) parity-0 ∙ omega (arith, ints),
+)

@@ -61,17 +61,17 @@ module _ {R : Type 0} (weight : R → ℤ) (size : R → ℕ) (span q count : �
         let here : (j : ℕ) → q ≤ j → j < q + 1 → j ≡ q = λ j a b. omega arith in
         record {
           weighs = λ j l t k. ⊎-elim
-            (λ b. put-below weight (pos 0) (q * span) span cur ys (omega arith) (j * span + t) (digits-lt b k) ∙ done .weighs j b t k)
-            (λ b. subst (λ (i : ℕ). weightAt weight (putMid (q * span) span cur ys) (i * span + t) ≡ spectrum (map weight (take span (drop (i * span) old))) t) (sym (here j b l))
+              (λ b. put-below weight (pos 0) (q * span) span cur ys (omega arith) (j * span + t) (digits-lt b k) ∙ done .weighs j b t k)
+              (λ b. subst (λ (i : ℕ). weightAt weight (putMid (q * span) span cur ys) (i * span + t) ≡ spectrum (map weight (take span (drop (i * span) old))) t) (sym (here j b l))
               (put-inside weight (pos 0) (q * span) span cur ys (omega arith) t (omega arith)
-               ∙ ap (λ (v : List ℤ). getD v t (pos 0)) (tr .weights)
-               ∙ getD-map-counting (spectrum (map weight (take span (drop (q * span) old)))) 0 (length (map weight (take span (drop (q * span) old)))) t t (pos 0) (omega arith) (omega arith)))
-            (cases-lt j q);
+              ∙ ap (λ (v : List ℤ). getD v t (pos 0)) (tr .weights)
+              ∙ getD-map-counting (spectrum (map weight (take span (drop (q * span) old)))) 0 (length (map weight (take span (drop (q * span) old)))) t t (pos 0) (omega arith) (omega arith)))
+              (cases-lt j q);
           small = λ j l t k. ⊎-elim
-            (λ b. let e = put-below size 0 (q * span) span cur ys (omega arith) (j * span + t) (digits-lt b k) in let f = done .small j b t k in omega arith)
-            (λ b. subst (λ (i : ℕ). sizeAt size (putMid (q * span) span cur ys) (i * span + t) ≤ sumBy size (take span (drop (i * span) old))) (sym (here j b l))
+              (λ b. let e = put-below size 0 (q * span) span cur ys (omega arith) (j * span + t) (digits-lt b k) in let f = done .small j b t k in omega arith)
+              (λ b. subst (λ (i : ℕ). sizeAt size (putMid (q * span) span cur ys) (i * span + t) ≤ sumBy size (take span (drop (i * span) old))) (sym (here j b l))
               (let e = put-inside size 0 (q * span) span cur ys (omega arith) t (omega arith) in let f = tr .small t (omega arith) in omega arith))
-            (cases-lt j q);
+              (cases-lt j q);
         }
 
     pub parts-rest : drop ((q + 1) * span) (putMid (q * span) span cur ys) ≡ drop ((q + 1) * span) old

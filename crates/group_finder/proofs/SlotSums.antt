@@ -77,9 +77,9 @@ pub sign-is : (J s c q : ℕ) → s < 2 ^ J → Slotted J c q → oddCommon s c 
 sign-is J s c q h d = ⊎-elim
     (λ k. ap (oddCommon s) (k .0) ∙ common-none s ∙ ap (sign J s) (sym (k .1)))
     (λ r. ⊎-elim
-      (λ k. ap (oddCommon s) (k .1 .1) ∙ common-one (k .0) s ∙ sym (sign-one J s (k .0) q (k .1 .0) (k .1 .2)))
-      (λ k. ap (oddCommon s) (k .1) ∙ common-all J s h ∙ sym (sign-all J s q (k .2)))
-      r)
+    (λ k. ap (oddCommon s) (k .1 .1) ∙ common-one (k .0) s ∙ sym (sign-one J s (k .0) q (k .1 .0) (k .1 .2)))
+    (λ k. ap (oddCommon s) (k .1) ∙ common-all J s h ∙ sym (sign-all J s q (k .2)))
+    r)
     d
 
 pub slot-below : (J c q : ℕ) → Slotted J c q → q < J + 2
@@ -92,45 +92,45 @@ slots-value J s w =
     ap (λ (k : ℕ). summed k (λ q. negatedIf (sign J s q) (w q))) z
     ∙ summed-front (suc J) (λ q. negatedIf (sign J s q) (w q))
     ∙ ap₂ (λ x y. w 0 +ℤ (x +ℤ y))
-        (summed-ext J _ _ (λ j l. ap₂ (λ (b : Bool) (k : ℕ). negatedIf b (w k)) (cond-true (ltb j J) (odd (s / 2 ^ j)) (parity s) (lt-ltb j J l)) (sym (add-one j))))
-        (ap₂ (λ (b : Bool) (k : ℕ). negatedIf b (w k)) (cond-false (ltb J J) (odd (s / 2 ^ J)) (parity s) (le-ltb J J (omega arith))) (sym (add-one J)))
+    (summed-ext J _ _ (λ j l. ap₂ (λ (b : Bool) (k : ℕ). negatedIf b (w k)) (cond-true (ltb j J) (odd (s / 2 ^ j)) (parity s) (lt-ltb j J l)) (sym (add-one j))))
+    (ap₂ (λ (b : Bool) (k : ℕ). negatedIf b (w k)) (cond-false (ltb J J) (odd (s / 2 ^ J)) (parity s) (le-ltb J J (omega arith))) (sym (add-one J)))
 
 module _ (group others : List ℕ) (ws : List ℤ) (slot : ℕ → ℕ) (fits : (i : ℕ) → i < length ws → Slotted (length group) (column group i) (slot i)) where
   pub decompose : (s t : ℕ) → s < 2 ^ length group
-    → agrees (group ++ others) ws (s + t * 2 ^ length group) ≡ choiceValue (slotSum slot (column others) (λ i. getD ws i (pos 0)) (length ws) t) (length group) s
+      → agrees (group ++ others) ws (s + t * 2 ^ length group) ≡ choiceValue (slotSum slot (column others) (λ i. getD ws i (pos 0)) (length ws) t) (length group) s
   decompose s t h =
       let J = length group in
       let n = length ws in
       let w : ℕ → ℤ = λ i. getD ws i (pos 0) in
       let part : (i : ℕ) → i < n → negatedIf (odd (codeword (group ++ others) (s + t * 2 ^ J) / 2 ^ i)) (w i) ≡ negatedIf (sign J s (slot i)) (negatedIf (oddCommon t (column others i)) (w i)) =
-        λ i l.
-          ap (λ (b : Bool). negatedIf b (w i))
-            (ap (λ (x : ℕ). odd (x / 2 ^ i)) (codeword-append group others s t h)
-             ∙ ap odd (xor-shr (codeword group s) (codeword others t) i)
-             ∙ odd-xor (codeword group s / 2 ^ i) (codeword others t / 2 ^ i)
-             ∙ ap₂ (λ (a b : Bool). cond a (not b) b) (sym (digit-link group s i) ∙ sign-is J s (column group i) (slot i) h (fits i l)) (sym (digit-link others t i)))
-          ∙ negatedIf-both (sign J s (slot i)) (oddCommon t (column others i)) (w i) in
+      λ i l.
+      ap (λ (b : Bool). negatedIf b (w i))
+      (ap (λ (x : ℕ). odd (x / 2 ^ i)) (codeword-append group others s t h)
+      ∙ ap odd (xor-shr (codeword group s) (codeword others t) i)
+      ∙ odd-xor (codeword group s / 2 ^ i) (codeword others t / 2 ^ i)
+      ∙ ap₂ (λ (a b : Bool). cond a (not b) b) (sym (digit-link group s i) ∙ sign-is J s (column group i) (slot i) h (fits i l)) (sym (digit-link others t i)))
+      ∙ negatedIf-both (sign J s (slot i)) (oddCommon t (column others i)) (w i) in
       agreement-summed ws (codeword (group ++ others) (s + t * 2 ^ J))
       ∙ summed-ext n _ _ part
       ∙ sym (gather n (J + 2) slot (λ q i. negatedIf (sign J s q) (negatedIf (oddCommon t (column others i)) (w i))) (λ i l. slot-below J (column group i) (slot i) (fits i l)))
       ∙ summed-ext (J + 2) _ _ (λ q _.
-          summed-ext n _ _ (λ i _. sym (negatedIf-cond (sign J s q) (eqb (slot i) q) (negatedIf (oddCommon t (column others i)) (w i))))
-          ∙ sym (negatedIf-summed (sign J s q) n (λ i. cond (eqb (slot i) q) (negatedIf (oddCommon t (column others i)) (w i)) (pos 0))))
+      summed-ext n _ _ (λ i _. sym (negatedIf-cond (sign J s q) (eqb (slot i) q) (negatedIf (oddCommon t (column others i)) (w i))))
+      ∙ sym (negatedIf-summed (sign J s q) n (λ i. cond (eqb (slot i) q) (negatedIf (oddCommon t (column others i)) (w i)) (pos 0))))
       ∙ slots-value J s (slotSum slot (column others) w n t)
 
 -- a part of the heap, transformed, holds the sums of its slot
 same-slot : (a b c d span : ℕ) → b < span → d < span → (w : ℤ) → cond (eqb (a * span + b) (c * span + d)) w (pos 0) ≡ cond (eqb b d) (cond (eqb a c) w (pos 0)) (pos 0)
 same-slot a b c d span hb hd w = ⊎-elim
     (λ (e : b ≡ d). ⊎-elim
-      (λ (f : a ≡ c). cond-true _ w (pos 0) (eq-eqb (a * span + b) (c * span + d) (ap₂ (λ (x y : ℕ). x * span + y) f e)) ∙ sym (cond-true (eqb a c) w (pos 0) (eq-eqb a c f)) ∙ sym (cond-true (eqb b d) _ (pos 0) (eq-eqb b d e)))
-      (λ n. cond-false _ w (pos 0) (ne-eqb (a * span + b) (c * span + d) (λ z. n (sym (digits-div a hb) ∙ ap (λ (x : ℕ). x / span) z ∙ digits-div c hd))) ∙ sym (cond-false (eqb a c) w (pos 0) (ne-eqb a c n)) ∙ sym (cond-true (eqb b d) _ (pos 0) (eq-eqb b d e)))
-      (cases-eq a c))
+    (λ (f : a ≡ c). cond-true _ w (pos 0) (eq-eqb (a * span + b) (c * span + d) (ap₂ (λ (x y : ℕ). x * span + y) f e)) ∙ sym (cond-true (eqb a c) w (pos 0) (eq-eqb a c f)) ∙ sym (cond-true (eqb b d) _ (pos 0) (eq-eqb b d e)))
+    (λ n. cond-false _ w (pos 0) (ne-eqb (a * span + b) (c * span + d) (λ z. n (sym (digits-div a hb) ∙ ap (λ (x : ℕ). x / span) z ∙ digits-div c hd))) ∙ sym (cond-false (eqb a c) w (pos 0) (ne-eqb a c n)) ∙ sym (cond-true (eqb b d) _ (pos 0) (eq-eqb b d e)))
+    (cases-eq a c))
     (λ n. cond-false _ w (pos 0) (ne-eqb (a * span + b) (c * span + d) (λ z. n (sym (digits-mod a hb) ∙ ap (λ (x : ℕ). x % span) z ∙ digits-mod c hd))) ∙ sym (cond-false (eqb b d) _ (pos 0) (ne-eqb b d n)))
     (cases-eq b d)
 
 pub part-spectrum : (vs : List ℤ) (n span q t : ℕ) (slot col : ℕ → ℕ) (w : ℕ → ℤ) → length vs ≡ span → ((i : ℕ) → i < n → col i < span)
-  → ((x : ℕ) → x < span → getD vs x (pos 0) ≡ sumOfSlot (λ i. slot i * span + col i) w n (q * span + x)) → spectrum vs t ≡ slotSum slot col w n t q
+    → ((x : ℕ) → x < span → getD vs x (pos 0) ≡ sumOfSlot (λ i. slot i * span + col i) w n (q * span + x)) → spectrum vs t ≡ slotSum slot col w n t q
 part-spectrum vs n span q t slot col w long low is =
     spectrum-folded vs n col (λ i. cond (eqb (slot i) q) (w i) (pos 0)) t (λ i l. let h = low i l in omega arith)
-      (λ x k. let kx : x < span = omega arith in is x kx ∙ summed-ext n _ _ (λ i l. same-slot (slot i) (col i) q x span (low i l) kx (w i)))
+    (λ x k. let kx : x < span = omega arith in is x kx ∙ summed-ext n _ _ (λ i l. same-slot (slot i) (col i) q x span (low i l) kx (w i)))
     ∙ summed-ext n _ _ (λ i _. negatedIf-cond (oddCommon t (col i)) (eqb (slot i) q) (w i))

@@ -42,7 +42,7 @@ parts-total size span xs (suc n) =
 
 -- the sizes that one choice of the others meets
 pub sizes-fit : {R : Type 0} (weight : R → ℤ) (size : R → ℕ) (span J t : ℕ) (old new : List R) → PartsDone weight size span (J + 2) old new → t < span → sumBy size old ≤ sumLimit
-  → sizeAt size new t + totalled J (λ i. sizeAt size new ((i + 1) * span + t)) + sizeAt size new ((J + 1) * span + t) ≤ sumLimit
+    → sizeAt size new t + totalled J (λ i. sizeAt size new ((i + 1) * span + t)) + sizeAt size new ((J + 1) * span + t) ≤ sumLimit
 sizes-fit weight size span J t old new done low small =
     let P : ℕ → ℕ = λ q. sumBy size (take span (drop (q * span) old)) in
     let z : 0 * span + t ≡ t = omega arith in
@@ -73,15 +73,15 @@ module _ {R : Type 0} (weight : R → ℤ) (size : R → ℕ) (group others slot
         let lp : length (take span (drop (q * span) folded)) ≡ span = length-take-le span (drop (q * span) folded) (let l = length-drop (q * span) folded in omega arith) in
         done .weighs q lq t lt
         ∙ part-spectrum (map weight (take span (drop (q * span) folded))) (length (map weight word)) span q t (λ i. getD slots i 0 / span) (column others) (λ i. weightAt weight word i)
-            (length-map (take span (drop (q * span) folded)) weight ∙ lp)
-            (λ i l. let b = column-below others i in omega arith)
-            (λ x l.
-              let d : q * span + x < (length group + 2) * span = digits-lt lq l in
-              ap (λ (v : List ℤ). getD v x (pos 0)) (sym (take-map weight span (drop (q * span) folded))) ∙ getD-take span (map weight (drop (q * span) folded)) x (pos 0) l
-              ∙ ap (λ (v : List ℤ). getD v x (pos 0)) (sym (drop-map weight (q * span) folded)) ∙ getD-drop (q * span) (map weight folded) x (pos 0)
-              ∙ sums (q * span + x) (omega arith)
-              ∙ summed-ext (length word) _ _ (λ i k. ap (λ (c : ℕ). cond (eqb c (q * span + x)) (weightAt weight word i) (pos 0)) (entries i (omega arith)))
-              ∙ ap (λ (j : ℕ). sumOfSlot (λ i. getD slots i 0 / span * span + column others i) (λ i. weightAt weight word i) j (q * span + x)) (sym n))
+        (length-map (take span (drop (q * span) folded)) weight ∙ lp)
+        (λ i l. let b = column-below others i in omega arith)
+        (λ x l.
+        let d : q * span + x < (length group + 2) * span = digits-lt lq l in
+        ap (λ (v : List ℤ). getD v x (pos 0)) (sym (take-map weight span (drop (q * span) folded))) ∙ getD-take span (map weight (drop (q * span) folded)) x (pos 0) l
+        ∙ ap (λ (v : List ℤ). getD v x (pos 0)) (sym (drop-map weight (q * span) folded)) ∙ getD-drop (q * span) (map weight folded) x (pos 0)
+        ∙ sums (q * span + x) (omega arith)
+        ∙ summed-ext (length word) _ _ (λ i k. ap (λ (c : ℕ). cond (eqb c (q * span + x)) (weightAt weight word i) (pos 0)) (entries i (omega arith)))
+        ∙ ap (λ (j : ℕ). sumOfSlot (λ i. getD slots i 0 / span * span + column others i) (λ i. weightAt weight word i) j (q * span + x)) (sym n))
 
     pub value-agrees : (m : ℕ) → m < span * 2 ^ length group → groupValue (weightAt weight final) span (length group) m ≡ agrees (group ++ others) (map weight word) m
     value-agrees m h =
@@ -100,5 +100,5 @@ module _ {R : Type 0} (weight : R → ℤ) (size : R → ℕ) (group others slot
     pub whole-best : (m : ℕ) → Top (groupValue (weightAt weight final) span (length group)) (span * 2 ^ length group) m → Best (group ++ others) (map weight word) m
     whole-best m t =
         let e : span * 2 ^ length group ≡ 2 ^ length (group ++ others) =
-          ap (λ (x : ℕ). x * 2 ^ length group) power ∙ sym (pow-add 2 (length others) (length group)) ∙ ap (λ (k : ℕ). 2 ^ k) (let l = length-append group others in omega arith) in
+        ap (λ (x : ℕ). x * 2 ^ length group) power ∙ sym (pow-add 2 (length others) (length group)) ∙ ap (λ (k : ℕ). 2 ^ k) (let l = length-append group others in omega arith) in
         subst (λ (k : ℕ). Top (agrees (group ++ others) (map weight word)) k m) e (top-same (groupValue (weightAt weight final) span (length group)) (agrees (group ++ others) (map weight word)) (span * 2 ^ length group) m value-agrees t)

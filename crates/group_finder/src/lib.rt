@@ -11,13 +11,13 @@ ghost use Rattle.card.specs.Rows.{Concur};
 ghost use Rattle.card.specs.Tables.{cardOf};
 ghost use Rattle.finder.specs.Search.{Answered, Refused};
 ghost use Rattle.group_finder.specs.Choices.{groupNeed};
+use crate::choices::over_choices;
+use crate::slots::group_slots;
+use crate::slots::transform_parts;
 use card::states::FinishedCard;
 use code::length::WordLength;
 use code::refusal::Refusal;
 use code::refusal::Section;
-use crate::choices::over_choices;
-use crate::slots::group_slots;
-use crate::slots::transform_parts;
 use finder::Finder;
 use finder::fold::fold;
 use finder::found::Found;
@@ -51,7 +51,14 @@ fn need_of(group: usize, others: usize) -> usize
 }
 
 // Folds the word into the lists of the slots, transforms each, and takes the best of all choices.
-fn search_group<R: Reading>(group: &[u64], others: &[u64], places: WordLength, need: usize, word: &[R], work: &mut [R]) -> Result<Found<R>, Refusal>
+fn search_group<R: Reading>(
+    group: &[u64],
+    others: &[u64],
+    places: WordLength,
+    need: usize,
+    word: &[R],
+    work: &mut [R],
+) -> Result<Found<R>, Refusal>
     requires few { ⌜ (length (now group) ≤ sectionRows) × (length (now others) ≤ sectionRows) ⌝ }
     requires concur { ⌜ Concur (now group) ⌝ }
     requires room { ⌜ need ≡ groupNeed (length (now group)) (length (now others)) ⌝ }
@@ -137,6 +144,13 @@ pub impl Finder for GroupFinder as GroupSearch {
     }
 
     fn search<R: Reading>(&self, word: &mut [R], work: &mut [R]) -> Result<Found<R>, Refusal> {
-        search_group(self.group_rows(), self.other_rows(), self.plain.length(), self.need(), word, work)
+        search_group(
+            self.group_rows(),
+            self.other_rows(),
+            self.plain.length(),
+            self.need(),
+            word,
+            work,
+        )
     }
 }

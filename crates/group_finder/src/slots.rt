@@ -28,7 +28,12 @@ fn slot_of(c: usize, count: usize) -> usize
 }
 
 // For each place of a word the entry that its reading goes to: its slot's list, and there its column of the other rows.
-pub(crate) fn group_slots(group: &[u64], others: &[u64], places: WordLength, span: usize) -> [usize; 64]
+pub(crate) fn group_slots(
+    group: &[u64],
+    others: &[u64],
+    places: WordLength,
+    span: usize,
+) -> [usize; 64]
     requires few { ⌜ (length (now group) ≤ sectionRows) × (length (now others) ≤ sectionRows) × (span ≡ 2 ^ length (now others)) ⌝ }
     requires concurs { ⌜ ((i : ℕ) → Concurs (length (now group)) (column (now group) i)) ⌝ }
     ensures slots { λ r. ⌜ ((i : ℕ) → i < places .places → Slotted (length (now (group .entry))) (column (now (group .entry)) i) (getD r i 0 / span)) ⌝ }

@@ -84,7 +84,7 @@ returns g c =
     let b = all-is w (pos 0) lists span t (c .args .count) (c .pre .few .1) (c .pre .long) all (c .index-lists-count .is) in
     let p = c .by-parity-even .result in
     let r = settled w z W (λ i. sizeAt z lists ((i + 1) * span + t)) (c .args .count) (p .0 .message) (p .0 .reading) (p .1 .message) (p .1 .reading) (c .by-parity-even .ensures)
-      (c .plus-minus-up .result .0) (c .plus-minus-up .result .1) (c .better-best .result .reading) (c .add-2 .result) (c .better-best .result .message)
-      (c .plus-minus-up .ensures .sum ∙ ap (λ x. w (p .0 .reading) +ℤ x) (sym b)) (c .plus-minus-up .ensures .difference ∙ ap (λ x. w (p .1 .reading) +ℤ negℤ x) (sym b)) (c .better-best .ensures)
-      (c .add-2 .ensures .weighs ∙ ap (λ x. x +ℤ w (c .better-best .result .reading)) (sym a)) in
+    (c .plus-minus-up .result .0) (c .plus-minus-up .result .1) (c .better-best .result .reading) (c .add-2 .result) (c .better-best .result .message)
+    (c .plus-minus-up .ensures .sum ∙ ap (λ x. w (p .0 .reading) +ℤ x) (sym b)) (c .plus-minus-up .ensures .difference ∙ ap (λ x. w (p .1 .reading) +ℤ negℤ x) (sym b)) (c .better-best .ensures)
+    (c .add-2 .ensures .weighs ∙ ap (λ x. x +ℤ w (c .better-best .result .reading)) (sym a)) in
     record { top = r .0; weighs = r .1 }

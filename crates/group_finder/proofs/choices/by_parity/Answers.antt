@@ -48,7 +48,7 @@ loop-j-holds g c =
     let small : z x ≤ sumLimit = omega arith in
     let n = c .negate .ensures in
     parity-first w z (λ i. weightAt w lists ((i + 1) * span + t)) (λ i. sizeAt z lists ((i + 1) * span + t)) x (c .negate .result) (sym wx)
-      (ap w n ∙ g .R·Reading·met .negation .negates x small ∙ ap negℤ (sym wx)) (sym zx) (ap z n ∙ g .R·Reading·met .negation .sized x small ∙ sym zx)
+    (ap w n ∙ g .R·Reading·met .negation .negates x small ∙ ap negℤ (sym wx)) (sym zx) (ap z n ∙ g .R·Reading·met .negation .sized x small ∙ sym zx)
 
 pub extend-next-requires : need.extend-next-requires
 extend-next-requires g c κs =
@@ -110,8 +110,8 @@ loop-j-again g c =
     let zx = read-at z lists ((j + 1) * span + t) x 0 lt (c .index-lists-j .is) in
     let j8 : j ≤ 8 = omega arith in
     parity-step w z (λ i. weightAt w lists ((i + 1) * span + t)) (λ i. sizeAt z lists ((i + 1) * span + t)) j x (sym wx) (sym zx) ((1 * 2 ^ j) % 4294967296) (bit-is j j8)
-      (c .loop-j .even .message) (c .loop-j .even .reading) (c .loop-j .odd .message) (c .loop-j .odd .reading) (c .loop-j .inv)
-      (c .extend-next .result .message) (c .extend-next .result .reading) (c .extend-odd .result .message) (c .extend-odd .result .reading) (c .extend-next .ensures) (c .extend-odd .ensures)
+    (c .loop-j .even .message) (c .loop-j .even .reading) (c .loop-j .odd .message) (c .loop-j .odd .reading) (c .loop-j .inv)
+    (c .extend-next .result .message) (c .extend-next .result .reading) (c .extend-odd .result .message) (c .extend-odd .result .reading) (c .extend-next .ensures) (c .extend-odd .ensures)
 
 pub returns : need.returns
 returns g c =
@@ -121,4 +121,4 @@ returns g c =
     let f0 = c .pre .few .0 in
     let e : c .loop-j .j ≡ c .args .count = omega arith in
     subst (λ (k : ℕ). ByParity w z (λ i. weightAt w lists ((i + 1) * c .args .span + c .args .t)) (λ i. sizeAt z lists ((i + 1) * c .args .span + c .args .t)) k
-      (c .loop-j .even .message) (c .loop-j .even .reading) (c .loop-j .odd .message) (c .loop-j .odd .reading)) e (c .loop-j .inv)
+    (c .loop-j .even .message) (c .loop-j .even .reading) (c .loop-j .odd .message) (c .loop-j .odd .reading)) e (c .loop-j .inv)

@@ -7,5 +7,5 @@ use Rattle.group_finder.proofs.choices.by_parity.Given as given
 abbrev pub Inv-loop-j : given.InvT-loop-j
 Inv-loop-j g l =
     ByParity (g .R·Reading .weight) (g .R·Reading .size)
-      (λ i. weightAt (g .R·Reading .weight) (l .lists) ((i + 1) * l .span + l .t)) (λ i. sizeAt (g .R·Reading .size) (l .lists) ((i + 1) * l .span + l .t))
-      (l .j) (l .even .message) (l .even .reading) (l .odd .message) (l .odd .reading)
+    (λ i. weightAt (g .R·Reading .weight) (l .lists) ((i + 1) * l .span + l .t)) (λ i. sizeAt (g .R·Reading .size) (l .lists) ((i + 1) * l .span + l .t))
+    (l .j) (l .even .message) (l .even .reading) (l .odd .message) (l .odd .reading)

@@ -41,8 +41,8 @@ loop-t-again g c =
     picked (λ b. Top gv ((t + 1) * 2 ^ J) (b .message) × (w (b .reading) ≡ gv (b .message)))
     (ltZ x y) (c .loop-t .best) _ (c .or-heavier-best .result) (c .or-heavier-best .ensures)
     (λ e. let l = less x y e in
-        subst (λ (k : ℕ). Top gv ((t + 1) * 2 ^ J) k × (y ≡ gv k)) (sym em)
-        (over-takes f span J t m n (c .loop-t .inv .0) u (omega (arith, ints)), wn ∙ sym (value-at f span J t n (u .within))))
+    subst (λ (k : ℕ). Top gv ((t + 1) * 2 ^ J) k × (y ≡ gv k)) (sym em)
+    (over-takes f span J t m n (c .loop-t .inv .0) u (omega (arith, ints)), wn ∙ sym (value-at f span J t n (u .within))))
     (λ e. let l = not-less x y e in (over-keeps f span J t m n (c .loop-t .inv .0) u (omega (arith, ints)), wm))
 
 pub returns : need.returns

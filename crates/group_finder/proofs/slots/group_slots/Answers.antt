@@ -68,12 +68,13 @@ loop-i-again c =
     let lc : old < span = (let h = low-column span others i (c .pre .few .2) in omega arith) in
     let same : getD (set xs i v) i 0 ≡ v = getD-set-same xs i v 0 low in
     let part : getD (set xs i v) i 0 / span ≡ q = ap (λ (x : ℕ). x / span) same ∙ digits-div q lc in
-    let other : (k : ℕ) → (k ≡ i → ⊥) → getD (set xs i v) k 0 ≡ getD xs k 0 = λ k h. getD-set-other xs i k v 0 h in
-    (simp length-set long,
-    below-more (λ k. Slotted (length group) (column group k) (getD (set xs i v) k 0 / span)) i
-    (λ k h. subst (λ (x : ℕ). Slotted (length group) (column group k) (x / span)) (sym (other k (omega arith))) (c .loop-i .inv .1 k h))
-    (subst (λ (x : ℕ). Slotted (length group) (column group i) x) (sym part) (subst (λ (x : ℕ). Slotted (length group) x q) g (c .slot-of-slot .ensures))),
-    below-more (λ k. getD (set xs i v) k 0 ≡ getD (set xs i v) k 0 / span * span + column others k) i
-    (λ k h. subst (λ (x : ℕ). x ≡ x / span * span + column others k) (sym (other k (omega arith))) (c .loop-i .inv .2 k h))
-    (same ∙ ap₂ (λ (x y : ℕ). x * span + y) (sym part) d),
-    λ k h l. other k (omega arith) ∙ c .loop-i .inv .3 k (omega arith) l)
+    let other : (k : ℕ) → (k ≡ i → ⊥) → getD (set xs i v) k 0 ≡ getD xs k 0 = λ k h. getD-set-other xs i k v 0 h in (
+      simp length-set long,
+      below-more (λ k. Slotted (length group) (column group k) (getD (set xs i v) k 0 / span)) i
+          (λ k h. subst (λ (x : ℕ). Slotted (length group) (column group k) (x / span)) (sym (other k (omega arith))) (c .loop-i .inv .1 k h))
+          (subst (λ (x : ℕ). Slotted (length group) (column group i) x) (sym part) (subst (λ (x : ℕ). Slotted (length group) x q) g (c .slot-of-slot .ensures))),
+      below-more (λ k. getD (set xs i v) k 0 ≡ getD (set xs i v) k 0 / span * span + column others k) i
+          (λ k h. subst (λ (x : ℕ). x ≡ x / span * span + column others k) (sym (other k (omega arith))) (c .loop-i .inv .2 k h))
+          (same ∙ ap₂ (λ (x y : ℕ). x * span + y) (sym part) d),
+      λ k h l. other k (omega arith) ∙ c .loop-i .inv .3 k (omega arith) l,
+    )

@@ -46,9 +46,10 @@ loop-q-again g c =
     let lmid : length (take (q * span + span - q * span) (drop (q * span) cur)) ≡ span = ap (λ (j : ℕ). length (take j (drop (q * span) cur))) k ∙ part-long w z span q count old cur ys long low rest in
     let small : sumBy z (take (q * span + span - q * span) (drop (q * span) cur)) ≤ sumLimit = (let e = ap (sumBy z) mid in let s = part-small w z span q count old cur ys long low rest (c .pre .small) in omega arith) in
     let tr : Transformed w z (take (q * span + span - q * span) (drop (q * span) cur)) ys =
-      transform-taken (c .transform .result) (Transformed w z (take (q * span + span - q * span) (drop (q * span) cur)) ys) (λ _. ys ≡ take (q * span + span - q * span) (drop (q * span) cur))
-        (length (take (q * span + span - q * span) (drop (q * span) cur))) (sumBy z (take (q * span + span - q * span) (drop (q * span) cur))) (c .args .power) (let q = c .pre .power .0 in omega arith) (lmid ∙ c .pre .power .1) small (c .transform .ensures .value) (c .transform .ensures .list) in
+    transform-taken (c .transform .result) (Transformed w z (take (q * span + span - q * span) (drop (q * span) cur)) ys) (λ _. ys ≡ take (q * span + span - q * span) (drop (q * span) cur))
+    (length (take (q * span + span - q * span) (drop (q * span) cur))) (sumBy z (take (q * span + span - q * span) (drop (q * span) cur))) (c .args .power) (let q = c .pre .power .0 in omega arith) (lmid ∙ c .pre .power .1) small (c .transform .ensures .value) (c .transform .ensures .list) in
     let tr′ = subst (λ (l : List (g .R .Denot)). Transformed w z l ys) mid tr in
-    let lys : length ys ≡ span = c .transform .kept .list ∙ lmid in
-    (subst (λ (j : ℕ). PartsDone w z span (q + 1) old (putMid (q * span) j cur ys)) (sym k) (parts-step w z span q count old cur ys long low rest lys (c .loop-q .inv .0) tr′),
-     subst (λ (j : ℕ). drop ((q + 1) * span) (putMid (q * span) j cur ys) ≡ drop ((q + 1) * span) old) (sym k) (parts-rest w z span q count old cur ys long low rest lys (c .loop-q .inv .0) tr′))
+    let lys : length ys ≡ span = c .transform .kept .list ∙ lmid in (
+      subst (λ (j : ℕ). PartsDone w z span (q + 1) old (putMid (q * span) j cur ys)) (sym k) (parts-step w z span q count old cur ys long low rest lys (c .loop-q .inv .0) tr′),
+      subst (λ (j : ℕ). drop ((q + 1) * span) (putMid (q * span) j cur ys) ≡ drop ((q + 1) * span) old) (sym k) (parts-rest w z span q count old cur ys long low rest lys (c .loop-q .inv .0) tr′),
+    )
