@@ -9,12 +9,18 @@ ghost use lib.ListN.{length, take, drop, getD};
 ghost use Rattle.std.specs.Results.{Cases};
 ghost use Rattle.std.specs.Options.{Cases as BySome};
 ghost use Rattle.std.specs.shelf.Lists.{All};
+ghost use Rattle.card.specs.Cards.{Lawful, rowsOf, sectionRows};
+ghost use Rattle.card.specs.Rows.{Within};
+ghost use Rattle.card.specs.Tables.{cardOf};
 ghost use Rattle.code.specs.Limits.{maxPlaces, maxRows, sumLimit};
 ghost use Rattle.code.specs.Words.{Best, agrees, codeword, negatedAt};
 ghost use Rattle.finder.specs.Search.{Answered, Refused, refusal};
+ghost use Rattle.coset_layer.specs.Layers.{held, layerRowsOf, layerSpan};
 ghost use Rattle.coset_layer.specs.Pile.{cutTo, layerRows, oppositeAt, pileRows, rowVerdict};
 ghost use Rattle.std.specs.declared.option.Option.the-variants.{Some};
+use crate::own::LAYER_ROWS;
 use crate::own::OwnRows;
+use card::states::FinishedCard;
 use code::length::WordLength;
 use code::limits::MAX_PLACES;
 use code::limits::MAX_ROWS;
@@ -31,9 +37,6 @@ pub struct CosetLayer<F> {
     below: F,
     own: OwnRows,
 }
-
-// The largest number of rows of one layer.
-const LAYER_ROWS: usize = 4;
 
 // The digits of a row at the first `n` places.
 fn first_digits(row: u64, n: usize) -> u64
@@ -155,10 +158,54 @@ fn check_row(n: usize, k: usize, count: usize, row: u64) -> Result<(), Refusal>
     Ok(())
 }
 
+// The layer of a card's first four coset rows, and above it that of the others.
+fn two_layers<F: Finder>(below: F, coset: &[u64]) -> CosetLayer<CosetLayer<F>>
+    ensures below { λ r. ⌜ r .below .below ≡ below ⌝ }
+    ensures lower { λ r. ⌜ held (r .below .own) ≡ take layerRows (now (coset .entry)) ⌝ }
+    ensures upper { λ r. ⌜ held (r .own) ≡ take layerRows (drop layerRows (now (coset .entry))) ⌝ }
+    ensures rows { λ r. ⌜ (length (now (coset .entry)) ≤ sectionRows → length (F·Finder .rows below) + length (now (coset .entry)) ≤ maxRows → Within (F·Finder .span below) (now (coset .entry))
+        → layerRowsOf (layerSpan (F·Finder .span)) (layerRowsOf (F·Finder .span) (F·Finder .rows)) r ≡ F·Finder .rows below ++ now (coset .entry)) ⌝ }
+{
+    let lower = coset.len().min(LAYER_ROWS);
+    let first = CosetLayer {
+        below,
+        own: OwnRows::first_of(&coset[0..lower]),
+    };
+    CosetLayer {
+        below: first,
+        own: OwnRows::first_of(&coset[lower..coset.len()]),
+    }
+}
+
+// The two layers of a card's coset rows.
+fn on_card<F: Finder>(below: F, card: &FinishedCard, coset: &[u64]) -> CosetLayer<CosetLayer<F>>
+    requires coset { ⌜ now coset ≡ cardOf (now card .table) .coset ⌝ }
+    requires lawful { ⌜ Lawful (cardOf (now card .table)) ⌝ }
+    ensures below { λ r. ⌜ r .below .below ≡ below ⌝ }
+    ensures lower { λ r. ⌜ held (r .below .own) ≡ take layerRows (cardOf (now (card .entry) .table) .coset) ⌝ }
+    ensures upper { λ r. ⌜ held (r .own) ≡ take layerRows (drop layerRows (cardOf (now (card .entry) .table) .coset)) ⌝ }
+    ensures rows { λ r. ⌜ (F·Finder .span below ≡ cardOf (now (card .entry) .table) .len → F·Finder .rows below ≡ cardOf (now (card .entry) .table) .group ++ cardOf (now (card .entry) .table) .transform
+        → layerRowsOf (layerSpan (F·Finder .span)) (layerRowsOf (F·Finder .span) (F·Finder .rows)) r ≡ rowsOf (cardOf (now (card .entry) .table))) ⌝ }
+{
+    two_layers(below, coset)
+}
+
+// A finder under two layers with the coset rows of a card, four to a layer.
+// Where the finder has the length and the group and transform rows of the card, the rows of the whole are the card's, in their order.
+pub fn card_layers<F: Finder>(below: F, card: &FinishedCard) -> CosetLayer<CosetLayer<F>>
+    ensures below { λ r. ⌜ r .below .below ≡ below ⌝ }
+    ensures lower { λ r. ⌜ held (r .below .own) ≡ take layerRows (cardOf (now (card .entry) .table) .coset) ⌝ }
+    ensures upper { λ r. ⌜ held (r .own) ≡ take layerRows (drop layerRows (cardOf (now (card .entry) .table) .coset)) ⌝ }
+    ensures rows { λ r. ⌜ (F·Finder .span below ≡ cardOf (now (card .entry) .table) .len → F·Finder .rows below ≡ cardOf (now (card .entry) .table) .group ++ cardOf (now (card .entry) .table) .transform
+        → layerRowsOf (layerSpan (F·Finder .span)) (layerRowsOf (F·Finder .span) (F·Finder .rows)) r ≡ rowsOf (cardOf (now (card .entry) .table))) ⌝ }
+{
+    on_card(below, card, card.section_rows(Section::Coset))
+}
+
 impl<F: Finder> CosetLayer<F> {
     // The rows of its own that the layer reads: as many as keep the pile at 24.
     fn own_rows(&self) -> &[u64]
-        ensures value { λ r. ⌜ now r ≡ take (maxRows - length (F·Finder .rows (now (self .entry) .below))) (take (now (self .entry) .own .count) (now (self .entry) .own .rows)) ⌝ }
+        ensures value { λ r. ⌜ now r ≡ take (maxRows - length (F·Finder .rows (now (self .entry) .below))) (held (now (self .entry) .own)) ⌝ }
         ensures few { λ r. ⌜ length (now r) ≤ layerRows ⌝ }
         ensures room { λ r. ⌜ length (now r) + length (F·Finder .rows (now (self .entry) .below)) ≤ maxRows ⌝ }
     {
@@ -167,7 +214,7 @@ impl<F: Finder> CosetLayer<F> {
 
     // The number of rows of the pile.
     fn pile_count(&self) -> usize
-        ensures { λ r. ⌜ r ≡ length (pileRows (F·Finder .span (now (self .entry) .below)) (F·Finder .rows (now (self .entry) .below)) (take (now (self .entry) .own .count) (now (self .entry) .own .rows))) ⌝ }
+        ensures { λ r. ⌜ r ≡ length (layerRowsOf (F·Finder .span) (F·Finder .rows) (now (self .entry))) ⌝ }
     {
         self.below.row_count() + self.own_rows().len()
     }
@@ -175,8 +222,8 @@ impl<F: Finder> CosetLayer<F> {
     // Row j of the pile.
     fn pile_row(&self, j: usize) -> Option<u64>
         ensures { λ r. ⌜ BySome r
-            (length (pileRows (F·Finder .span (now (self .entry) .below)) (F·Finder .rows (now (self .entry) .below)) (take (now (self .entry) .own .count) (now (self .entry) .own .rows))) ≤ j)
-            (λ w. (j < length (pileRows (F·Finder .span (now (self .entry) .below)) (F·Finder .rows (now (self .entry) .below)) (take (now (self .entry) .own .count) (now (self .entry) .own .rows)))) × (w ≡ getD (pileRows (F·Finder .span (now (self .entry) .below)) (F·Finder .rows (now (self .entry) .below)) (take (now (self .entry) .own .count) (now (self .entry) .own .rows))) j 0)) ⌝ }
+            (length (layerRowsOf (F·Finder .span) (F·Finder .rows) (now (self .entry))) ≤ j)
+            (λ w. (j < length (layerRowsOf (F·Finder .span) (F·Finder .rows) (now (self .entry)))) × (w ≡ getD (layerRowsOf (F·Finder .span) (F·Finder .rows) (now (self .entry))) j 0)) ⌝ }
     {
         let k = self.below.row_count();
         if j < k {
@@ -194,7 +241,7 @@ impl<F: Finder> CosetLayer<F> {
     // A layer with no rows of its own yet.
     pub fn new(below: F) -> CosetLayer<F>
         ensures below { λ r. ⌜ r .below ≡ below ⌝ }
-        ensures own { λ r. ⌜ take (r .own .count) (r .own .rows) ≡ [] ⌝ }
+        ensures own { λ r. ⌜ held (r .own) ≡ [] ⌝ }
     {
         CosetLayer {
             below,
@@ -204,14 +251,13 @@ impl<F: Finder> CosetLayer<F> {
 
     // Adds a row of its own, or turns it down and leaves the layer as it was. The row may depend on others.
     pub fn add_row(&mut self, row: u64) -> Result<(), Refusal>
-        ensures value { λ r. ⌜ r ≡ rowVerdict (F·Finder .span (now (self .entry) .below)) (length (F·Finder .rows (now (self .entry) .below))) (length (take (now (self .entry) .own .count) (now (self .entry) .own .rows))) row ⌝ }
+        ensures value { λ r. ⌜ r ≡ rowVerdict (F·Finder .span (now (self .entry) .below)) (length (F·Finder .rows (now (self .entry) .below))) (length (held (now (self .entry) .own))) row ⌝ }
         ensures below { λ r. ⌜ now (self .exit) .below ≡ now (self .entry) .below ⌝ }
         ensures own { λ r. ⌜ Cases r
-            (λ _. take (now (self .exit) .own .count) (now (self .exit) .own .rows) ≡ take (now (self .entry) .own .count) (now (self .entry) .own .rows) ++ row ∷ [])
+            (λ _. held (now (self .exit) .own) ≡ held (now (self .entry) .own) ++ row ∷ [])
             (λ _. now (self .exit) ≡ now (self .entry)) ⌝ }
         ensures rows { λ r. ⌜ Cases r
-            (λ _. pileRows (F·Finder .span (now (self .entry) .below)) (F·Finder .rows (now (self .entry) .below)) (take (now (self .exit) .own .count) (now (self .exit) .own .rows))
-            ≡ pileRows (F·Finder .span (now (self .entry) .below)) (F·Finder .rows (now (self .entry) .below)) (take (now (self .entry) .own .count) (now (self .entry) .own .rows)) ++ row ∷ [])
+            (λ _. layerRowsOf (F·Finder .span) (F·Finder .rows) (now (self .exit)) ≡ layerRowsOf (F·Finder .span) (F·Finder .rows) (now (self .entry)) ++ row ∷ [])
             (λ _. Unit {0}) ⌝ }
     {
         let n = self.below.length().places();
@@ -227,9 +273,9 @@ impl<F: Finder> CosetLayer<F> {
 }
 
 pub impl<F: Finder> Finder for CosetLayer<F> as LayerFinder {
-    ghost span = { λ s. F·Finder .span (s .below) };
+    ghost span = { layerSpan (F·Finder .span) };
 
-    ghost rows = { λ s. pileRows (F·Finder .span (s .below)) (F·Finder .rows (s .below)) (take (s .own .count) (s .own .rows)) };
+    ghost rows = { layerRowsOf (F·Finder .span) (F·Finder .rows) };
 
     ghost need = { λ s. F·Finder .need (s .below) };
 

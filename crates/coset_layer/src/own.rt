@@ -4,6 +4,9 @@ ghost use Prim.Native.Nat.{_+_, _<_, _≤_};
 ghost use lib.ListN.{length, getD, take};
 ghost use Rattle.coset_layer.specs.Pile.{layerRows};
 
+// The largest number of rows of one layer.
+pub(crate) const LAYER_ROWS: usize = 4;
+
 // Up to four rows, the first `count` of the table.
 #[derive(Clone, Copy)]
 pub struct OwnRows {
@@ -21,6 +24,16 @@ impl OwnRows {
             rows: [0; 4],
             count: 0,
         }
+    }
+
+    // The first four of the rows, or all where fewer.
+    pub(crate) fn first_of(rows: &[u64]) -> OwnRows
+        ensures { λ r. ⌜ take (r .count) (r .rows) ≡ take layerRows (now (rows .entry)) ⌝ }
+    {
+        let count = rows.len().min(LAYER_ROWS);
+        let mut table = [0; 4];
+        table[0..count].copy_from_slice(&rows[0..count]);
+        OwnRows { rows: table, count }
     }
 
     // How many rows there are.

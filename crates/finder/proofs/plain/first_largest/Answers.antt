@@ -10,8 +10,8 @@ use Rattle.code.specs.Words.{Top}
 use Rattle.hadamard.specs.Transform.{weightAt}
 use Rattle.hadamard.proofs.Entries.{read-at}
 use Rattle.finder.proofs.Picks.{picked, less, not-less, largest-takes, largest-keeps, largest-first}
-use Rattle.finder.proofs.plain.search.first_largest.Given as given
-use Rattle.finder.proofs.plain.search.first_largest.Needs as need
+use Rattle.finder.proofs.plain.first_largest.Given as given
+use Rattle.finder.proofs.plain.first_largest.Needs as need
 
 pub loop-i-holds : need.loop-i-holds
 loop-i-holds g c = (largest-first (weightAt (g .R·Reading .weight) (c .args .list .now)), sym (read-at (g .R·Reading .weight) (c .args .list .now) 0 (c .index-list-0 .result) (pos 0) (c .pre .0) (c .index-list-0 .is)))

@@ -8,8 +8,8 @@ use Rattle.card.specs.Cards.{Card}
 use Rattle.card.specs.Rows.{Within}
 use Rattle.card.specs.Tables.{cardOf}
 use Rattle.finder.proofs.CardRows.{first-two, first-fit, first-few, first-within}
-use Rattle.finder.proofs.plain.search.first_rows.Given as given
-use Rattle.finder.proofs.plain.search.first_rows.Needs as need
+use Rattle.finder.proofs.plain.first_rows.Given as given
+use Rattle.finder.proofs.plain.first_rows.Needs as need
 
 pub table-of-requires : need.table-of-requires
 table-of-requires c κs =

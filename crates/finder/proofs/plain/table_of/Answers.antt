@@ -4,7 +4,7 @@ use Prim.Native.Nat.{ℕ, _-_}
 use native.Mathlib.Omega.{arith}
 use lib.ListN.{length, take}
 use Rattle.std.proofs.shelf.Lists.{take-at, length-take-le}
-use Rattle.finder.proofs.plain.search.table_of.Needs as need
+use Rattle.finder.proofs.plain.table_of.Needs as need
 
 pub returns : need.returns
 returns c =

@@ -18,8 +18,8 @@ use Rattle.hadamard.proofs.Entries.{at-take}
 use Rattle.finder.specs.Fold.{columnRows, sumOfSlot}
 use Rattle.finder.proofs.Refusals.{taken-facts}
 use Rattle.finder.proofs.PlainRows.{transform-taken, holds-agreements}
-use Rattle.finder.proofs.plain.search.search_rows.Given as given
-use Rattle.finder.proofs.plain.search.search_rows.Needs as need
+use Rattle.finder.proofs.plain.search_rows.Given as given
+use Rattle.finder.proofs.plain.search_rows.Needs as need
 
 pub part-list-end : need.part-list-end
 part-list-end g c =

@@ -4,7 +4,7 @@ use native.Mathlib.Omega.{arith}
 use Rattle.std.proofs.shelf.Lists.{length-take}
 use Rattle.finder.specs.Fold.{columnRows}
 use Rattle.finder.proofs.PlainRows.{plain-lawful}
-use Rattle.finder.proofs.plain.search.PlainFinderFinder.the-impl.Needs as need
+use Rattle.finder.proofs.plain.PlainSearch.the-impl.Needs as need
 
 pub lawful-law : need.lawful-law
 lawful-law s =
