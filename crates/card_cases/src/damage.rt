@@ -63,11 +63,6 @@ fn changed(at: usize, byte: u8) -> Result<[u8; E_BYTES], Refusal> {
     Ok(bytes)
 }
 
-// The file with one byte changed gets that refusal.
-fn case(at: usize, byte: u8, due: Refusal) -> Result<(), Failure> {
-    expect(refused_with(&changed(at, byte)?, due)?)
-}
-
 fn beyond(section: Section, index: usize) -> Refusal {
     Refusal::DigitBeyondLength { section, index }
 }
@@ -76,66 +71,47 @@ fn dependent(section: Section, index: usize) -> Refusal {
     Refusal::DependentRow { section, index }
 }
 
-// Damaged lengths.
-fn lengths() -> Result<(), Failure> {
-    case(0, 0, Refusal::LengthOutOfRange)?;
-    case(0, 65, Refusal::LengthOutOfRange)?;
-    case(0, 255, Refusal::LengthOutOfRange)?;
-    case(0, 1, beyond(Section::Group, 0))?;
-    case(0, 4, beyond(Section::Coset, 0))
+fn full(section: Section) -> Refusal {
+    Refusal::SectionFull { section }
 }
 
-// Damaged counts, at bytes 1, 18 and 27.
-fn counts() -> Result<(), Failure> {
-    case(
-        1,
-        9,
-        Refusal::SectionFull {
-            section: Section::Group,
-        },
-    )?;
-    case(
-        18,
-        9,
-        Refusal::SectionFull {
-            section: Section::Transform,
-        },
-    )?;
-    case(
-        27,
-        200,
-        Refusal::SectionFull {
-            section: Section::Coset,
-        },
-    )?;
-    case(1, 8, beyond(Section::Group, 2))?;
-    case(27, 2, Refusal::BytesEndEarly)?;
-    case(27, 0, Refusal::BytesLeftOver)
+// A byte of the file, what it is changed to, and the refusal that is due: the length at byte 0, the counts at bytes 1, 18
+// and 27, and the rows behind them.
+fn damages() -> [(usize, u8, Refusal); 19] {
+    [
+        (0, 0, Refusal::LengthOutOfRange),
+        (0, 65, Refusal::LengthOutOfRange),
+        (0, 255, Refusal::LengthOutOfRange),
+        (0, 1, beyond(Section::Group, 0)),
+        (0, 4, beyond(Section::Coset, 0)),
+        (1, 9, full(Section::Group)),
+        (18, 9, full(Section::Transform)),
+        (27, 200, full(Section::Coset)),
+        (1, 8, beyond(Section::Group, 2)),
+        (27, 2, Refusal::BytesEndEarly),
+        (27, 0, Refusal::BytesLeftOver),
+        (2, 0, dependent(Section::Group, 0)),
+        (10, 3, dependent(Section::Group, 1)),
+        (10, 32, beyond(Section::Group, 1)),
+        (17, 128, beyond(Section::Group, 1)),
+        (19, 5, dependent(Section::Transform, 0)),
+        (26, 1, beyond(Section::Transform, 0)),
+        (28, 9, dependent(Section::Coset, 0)),
+        (29, 1, beyond(Section::Coset, 0)),
+    ]
 }
 
-// Damaged rows, at bytes 2, 10, 19 and 28.
-fn rows() -> Result<(), Failure> {
-    case(2, 0, dependent(Section::Group, 0))?;
-    case(10, 3, dependent(Section::Group, 1))?;
-    case(10, 32, beyond(Section::Group, 1))?;
-    case(17, 128, beyond(Section::Group, 1))?;
-    case(19, 5, dependent(Section::Transform, 0))?;
-    case(26, 1, beyond(Section::Transform, 0))?;
-    case(28, 9, dependent(Section::Coset, 0))?;
-    case(29, 1, beyond(Section::Coset, 0))?;
-    expect(broken_group()?)
-}
-
-// How many damaged files are tried.
-const DAMAGED: usize = 21;
-
+// Tries each damaged file, and tells how many were tried.
 pub(crate) fn damaged() -> Result<usize, Failure> {
-    lengths()?;
-    counts()?;
-    rows()?;
+    let mut tried = 0usize;
+    for (at, byte, due) in damages() {
+        expect(refused_with(&changed(at, byte)?, due)?)?;
+        tried = tried.saturating_add(1);
+    }
+    expect(broken_group()?)?;
     expect(byte_too_many()?)?;
     expect(longest_length()?)?;
-    Ok(DAMAGED)
+    Ok(tried.saturating_add(2))
 }
 
 // Group rows 3, 6 and 9: the third breaks concurrence.
