@@ -2,7 +2,7 @@
 use mathlib.Core.Path.{_≡_, sym, ap, ap₂, _∙_, subst, subst₂}
 use mathlib.Core.List.{List, [], _∷_, _++_}
 use mathlib.Core.Logic.{_⊎_, inl, inr}
-use Prim.Native.Nat.{ℕ, zero, suc, _+_, _*_, _/_, _%_, _^_, _≤_, _<_}
+use Prim.Native.Nat.{ℕ, zero, suc, _+_, _*_, _/_, _%_, _^_, _≤_, _<_, min}
 use native.Mathlib.Nat.{zero-mul, div-add-mod', one-mul, mod-lt, div-one}
 use native.Mathlib.Numerals.{one-add}
 use native.Mathlib.Omega.{arith}
@@ -125,7 +125,7 @@ echelon-take (suc n) (b ∷ bs) (hb, h) = (all-lack-take n b bs hb, echelon-take
 pub reduced-none : (row : ℕ) → Reduced [] row row
 reduced-none row = record { lacks = tt; spans = subst (Span []) (sym (xor-self row)) (span-zero []) }
 
-pub reduced-keep : (xs : List ℕ) (i row x : ℕ) → i < length xs → Reduced (take i xs) row x → x ≤ bitXor x (getD xs i 0)
+reduced-keep : (xs : List ℕ) (i row x : ℕ) → i < length xs → Reduced (take i xs) row x → x ≤ bitXor x (getD xs i 0)
     → Reduced (take (i + 1) xs) row x
 reduced-keep xs i row x lt r h =
     subst (λ (l : List ℕ). Reduced l row x) (sym (take-more xs i 0 lt))
@@ -134,7 +134,7 @@ reduced-keep xs i row x lt r h =
       spans = span-keep (take i xs) (getD xs i 0) (bitXor row x) (r .spans);
     })
 
-pub reduced-add : (xs : List ℕ) (i row x : ℕ) → i < length xs → Echelon xs → Reduced (take i xs) row x → bitXor x (getD xs i 0) < x
+reduced-add : (xs : List ℕ) (i row x : ℕ) → i < length xs → Echelon xs → Reduced (take i xs) row x → bitXor x (getD xs i 0) < x
     → Reduced (take (i + 1) xs) row (bitXor x (getD xs i 0))
 reduced-add xs i row x lt e r h =
     let bs = take i xs in
@@ -145,6 +145,15 @@ reduced-add xs i row x lt e r h =
       lacks = lacks-all-push bs b (bitXor x b) (lacks-all-xor bs x b (r .lacks) (echelon-last bs b e′)) (subst (λ (z : ℕ). bitXor x b ≤ z) (sym (cancel x b)) (omega arith));
       spans = subst (Span (bs ++ b ∷ [])) (xor-assoc row x b) (span-add bs b (bitXor row x) (r .spans));
     })
+
+pub reduced-more : (xs : List ℕ) (i row x y : ℕ) → i < length xs → Echelon xs → Reduced (take i xs) row x → y ≡ min x (bitXor x (getD xs i 0))
+    → Reduced (take (i + 1) xs) row y
+reduced-more xs i row x y lt e r is =
+    let b = getD xs i 0 in
+    elim (cases-lt (bitXor x b) x) [
+      | inl less ↦ let same : bitXor x b ≡ y = omega arith in subst (Reduced (take (i + 1) xs) row) same (reduced-add xs i row x lt e r less)
+      | inr more ↦ let same : x ≡ y = omega arith in subst (Reduced (take (i + 1) xs) row) same (reduced-keep xs i row x lt r more)
+    ]
 
 -- one row more, reduced by those before it
 pub same-span-push : (bs rows : List ℕ) (x r : ℕ) → SameSpan bs rows → Span bs (bitXor r x) → SameSpan (bs ++ x ∷ []) (rows ++ r ∷ [])

@@ -4,3 +4,4 @@ pub mod Decided
 pub mod Tables
 pub mod Pushes
 pub mod Lawful
+pub mod Told

@@ -13,7 +13,7 @@ use Rattle.code.specs.declared.refusal.Refusal.{Refusal}
 use Rattle.code.specs.declared.refusal.Refusal.the-variants.{MessageTooLarge, DigitBeyondLength, SectionFull, DependentRow, ConcurrenceBroken}
 use Rattle.code.specs.Limits.{Length}
 use Rattle.code.specs.Words.{codeword}
-use Rattle.code.specs.Spans.{Independent}
+use Rattle.code.specs.Spans.{Independent, Span}
 use Rattle.card.specs.Rows.{Within, Concur, dependent, concordant}
 
 -- the largest number of rows of a section, and of a card
@@ -71,6 +71,25 @@ verdict k s row =
     (cond (dependent (rowsOf k) row) (Err (DependentRow s (length (sectionOf k s))))
     (cond (keeps k s row) (Ok tt)
     (Err (ConcurrenceBroken s (length (sectionOf k s)))))))
+
+-- a new row would keep the concurrence of the group
+abbrev pub Keeps : Section → List ℕ → ℕ → Type 0
+Keeps Group here row = Concur (here ++ row ∷ [])
+Keeps Transform here row = Unit {0}
+Keeps Coset here row = Unit {0}
+
+-- x is what a row is told that is handed to section s of a card: `yes`, or `no` with a refusal. The section has the rows
+-- `here`, the card the rows `all`, its words n places. Of the five cases just one applies.
+pub record RowTold {X : Type 0} (yes : X) (no : Refusal → X) (n : ℕ) (s : Section) (here all : List ℕ) (row : ℕ) (x : X) : Type 0 where
+  pub beyond : 2 ^ n ≤ row → x ≡ no (DigitBeyondLength s (length here))
+  pub full : row < 2 ^ n → sectionRows ≤ length here → x ≡ no (SectionFull s)
+  pub dependent : row < 2 ^ n → length here < sectionRows → Span all row → x ≡ no (DependentRow s (length here))
+  pub broken : row < 2 ^ n → length here < sectionRows → (Span all row → ⊥) → (Keeps s here row → ⊥) → x ≡ no (ConcurrenceBroken s (length here))
+  pub taken : row < 2 ^ n → length here < sectionRows → (Span all row → ⊥) → Keeps s here row → x ≡ yes
+
+-- r is what a row is told that is handed to section s of the card k
+abbrev pub Told : Card → Section → ℕ → Result (Unit {0}) Refusal → Type 0
+Told k s row r = RowTold (Ok tt) (λ e. Err e) (k .len) s (sectionOf k s) (rowsOf k) row r
 
 -- the card after a row was handed to it with that answer
 abbrev pub added : Result (Unit {0}) Refusal → Card → Section → ℕ → Card

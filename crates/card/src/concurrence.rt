@@ -5,7 +5,7 @@ ghost use mathlib.Core.Path.{_≡_};
 ghost use Rattle.card.specs.Rows.{Concur};
 
 // Whether each place has digit 1 in none of the group's rows and `row`, in just one, or in all of them.
-pub fn concurs(group: &[u64], row: u64) -> bool
+pub(crate) fn concurs(group: &[u64], row: u64) -> bool
     ensures only { λ r. ⌜ (r ≡ true → Concur (now (group .entry) ++ row ∷ [])) ⌝ }
     ensures every { λ r. ⌜ (Concur (now (group .entry) ++ row ∷ []) → r ≡ true) ⌝ }
 {

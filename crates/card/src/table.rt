@@ -10,9 +10,9 @@ mod checks;
 mod views;
 
 // The largest number of rows that a section holds, and a card.
-pub const SECTION_ROWS: usize = 8;
+pub(crate) const SECTION_ROWS: usize = 8;
 
-pub const CARD_ROWS: usize = 24;
+pub(crate) const CARD_ROWS: usize = 24;
 
 // The word length and the rows of a card: group rows first, then transform rows, then coset rows.
 #[derive(Drop)]

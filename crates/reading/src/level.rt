@@ -1,8 +1,10 @@
 ghost use mathlib.Core.Path.{_≡_};
 ghost use Rattle.reading.specs.Kinds.{levelWeight, levelSize, levelOpposite};
 use crate::Reading;
+use std::fmt;
 
 // The level kind: one number, which is its weight.
+#[repr(C)]
 #[derive(Clone, Copy, PartialEq, Eq, Debug)]
 pub struct Level {
     pub value: i32,
@@ -50,5 +52,12 @@ pub impl Reading for Level as LevelReading {
 
     fn size(self) -> u32 {
         self.value.unsigned_abs()
+    }
+}
+
+pub impl fmt::Display for Level as LevelDisplay {
+    fn fmt<W: fmt::Write>(&self, f: &mut fmt::Formatter<W>) -> fmt::Result {
+        let value = self.value;
+        write!(f, "{value}")
     }
 }

@@ -4,6 +4,7 @@ ghost use lib.IntN.{_+ℤ_};
 ghost use Rattle.code.specs.Limits.{sumLimit};
 ghost use Rattle.reading.specs.Kinds.{headsWeight, headsSize, headsOpposite};
 use crate::Reading;
+use std::fmt;
 
 // The two-head kind: a main number and a second one, which decides only where the main numbers are equal.
 #[derive(Clone, Copy, PartialEq, Eq, Debug)]
@@ -73,5 +74,13 @@ pub impl Reading for TwoHead as TwoHeadReading {
 
     fn size(self) -> u32 {
         self.main.unsigned_abs().max(self.second.unsigned_abs())
+    }
+}
+
+pub impl fmt::Display for TwoHead as TwoHeadDisplay {
+    fn fmt<W: fmt::Write>(&self, f: &mut fmt::Formatter<W>) -> fmt::Result {
+        let main = self.main;
+        let second = self.second;
+        write!(f, "({main}, {second})")
     }
 }

@@ -3,7 +3,7 @@ ghost use Prim.Native.Nat.{_≤_};
 ghost use lib.ListN.{length};
 ghost use Rattle.std.specs.Results.{Cases};
 ghost use Rattle.code.specs.declared.refusal.Section.the-variants.{Group, Transform, Coset};
-ghost use Rattle.card.specs.Cards.{added, blank, cardRows, encoded, Lawful, Only, rowsOf, sectionOf, verdict};
+ghost use Rattle.card.specs.Cards.{added, blank, cardRows, encoded, Lawful, Only, rowsOf, sectionOf, sectionRows, Told, verdict};
 ghost use Rattle.card.specs.Tables.{cardOf};
 use super::CosetCard;
 use super::FinishedCard;
@@ -27,6 +27,7 @@ impl GroupCard {
     // Adds a group row, or turns it down and leaves the card as it was.
     pub fn add_row(&mut self, row: u64) -> Result<(), Refusal>
         ensures answer { λ r. ⌜ r ≡ verdict (cardOf (now (self .entry) .table)) Group row ⌝ }
+        ensures told { λ r. ⌜ Told (cardOf (now (self .entry) .table)) Group row r ⌝ }
         ensures card { λ r. ⌜ cardOf (now (self .exit) .table) ≡ added r (cardOf (now (self .entry) .table)) Group row ⌝ }
         ensures refused { λ r. ⌜ Cases r (λ _. Unit {0}) (λ _. now (self .exit) .table ≡ now (self .entry) .table) ⌝ }
         ensures lawful { λ _. ⌜ Lawful (cardOf (now (self .exit) .table)) ⌝ }
@@ -46,6 +47,7 @@ impl TransformCard {
     // Adds a transform row, or turns it down and leaves the card as it was.
     pub fn add_row(&mut self, row: u64) -> Result<(), Refusal>
         ensures answer { λ r. ⌜ r ≡ verdict (cardOf (now (self .entry) .table)) Transform row ⌝ }
+        ensures told { λ r. ⌜ Told (cardOf (now (self .entry) .table)) Transform row r ⌝ }
         ensures card { λ r. ⌜ cardOf (now (self .exit) .table) ≡ added r (cardOf (now (self .entry) .table)) Transform row ⌝ }
         ensures refused { λ r. ⌜ Cases r (λ _. Unit {0}) (λ _. now (self .exit) .table ≡ now (self .entry) .table) ⌝ }
         ensures lawful { λ _. ⌜ Lawful (cardOf (now (self .exit) .table)) ⌝ }
@@ -65,6 +67,7 @@ impl CosetCard {
     // Adds a coset row, or turns it down and leaves the card as it was.
     pub fn add_row(&mut self, row: u64) -> Result<(), Refusal>
         ensures answer { λ r. ⌜ r ≡ verdict (cardOf (now (self .entry) .table)) Coset row ⌝ }
+        ensures told { λ r. ⌜ Told (cardOf (now (self .entry) .table)) Coset row r ⌝ }
         ensures card { λ r. ⌜ cardOf (now (self .exit) .table) ≡ added r (cardOf (now (self .entry) .table)) Coset row ⌝ }
         ensures refused { λ r. ⌜ Cases r (λ _. Unit {0}) (λ _. now (self .exit) .table ≡ now (self .entry) .table) ⌝ }
         ensures lawful { λ _. ⌜ Lawful (cardOf (now (self .exit) .table)) ⌝ }
@@ -86,8 +89,8 @@ impl FinishedCard {
         ensures { λ r. ⌜ cardOf (r .table) ≡ blank 1 ⌝ }
     {
         match WordLength::new(1) {
-            Ok(len) => FinishedCard {
-                table: Table::new(len),
+            Ok(shortest) => FinishedCard {
+                table: Table::new(shortest),
             },
             Err(_) => unreachable(),
         }
@@ -112,6 +115,7 @@ impl FinishedCard {
     // The rows of a section.
     pub fn section_rows(&self, section: Section) -> &[u64]
         ensures value { λ r. ⌜ now r ≡ sectionOf (cardOf (now (self .entry) .table)) section ⌝ }
+        ensures few { λ r. ⌜ length (now r) ≤ sectionRows ⌝ }
         ensures lawful { λ _. ⌜ Lawful (cardOf (now (self .entry) .table)) ⌝ }
     {
         self.table.section_rows(section)

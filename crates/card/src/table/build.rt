@@ -1,6 +1,6 @@
 ghost use mathlib.Core.Path.{_≡_};
 ghost use Rattle.std.specs.Results.{Cases};
-ghost use Rattle.card.specs.Cards.{added, blank, encoded, Lawful, Only, verdict};
+ghost use Rattle.card.specs.Cards.{added, blank, encoded, Lawful, Only, Told, verdict};
 ghost use Rattle.card.specs.Tables.{cardOf, Filling};
 use super::CARD_ROWS;
 use super::Table;
@@ -11,7 +11,7 @@ use code::words::word_of;
 
 impl Table {
     // A table with no rows.
-    pub fn new(len: WordLength) -> Table
+    pub(crate) fn new(len: WordLength) -> Table
         ensures card { λ r. ⌜ cardOf r ≡ blank (len .places) ⌝ }
         ensures open { λ r. ⌜ (r .transform ≡ 0) × (r .coset ≡ 0) ⌝ }
     {
@@ -25,9 +25,10 @@ impl Table {
     }
 
     // Adds a row to a section after which none has rows, or turns it down.
-    pub fn push(&mut self, section: Section, row: u64) -> Result<(), Refusal>
+    pub(crate) fn push(&mut self, section: Section, row: u64) -> Result<(), Refusal>
         requires { ⌜ Filling (now self .transform) (now self .coset) section ⌝ }
         ensures answer { λ r. ⌜ r ≡ verdict (cardOf (now (self .entry))) section row ⌝ }
+        ensures told { λ r. ⌜ Told (cardOf (now (self .entry))) section row r ⌝ }
         ensures card { λ r. ⌜ cardOf (now (self .exit)) ≡ added r (cardOf (now (self .entry))) section row ⌝ }
         ensures refused { λ r. ⌜ Cases r (λ _. Unit {0}) (λ _. now (self .exit) ≡ now (self .entry)) ⌝ }
         ensures filling { λ _. ⌜ Filling (now (self .exit) .transform) (now (self .exit) .coset) section ⌝ }
@@ -45,7 +46,7 @@ impl Table {
     }
 
     // The code word of a message.
-    pub fn encode(&self, message: u64) -> Result<u64, Refusal>
+    pub(crate) fn encode(&self, message: u64) -> Result<u64, Refusal>
         ensures answer { λ r. ⌜ r ≡ encoded (cardOf (now (self .entry))) message ⌝ }
         ensures distinct { λ r. ⌜ Cases r (λ w. Only (cardOf (now (self .entry))) message w) (λ _. Unit {0}) ⌝ }
     {

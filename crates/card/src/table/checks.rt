@@ -64,7 +64,7 @@ impl Table {
     }
 
     // The four checks of a row that is to be added to a section.
-    pub fn check(&self, section: Section, row: u64) -> Result<(), Refusal>
+    pub(crate) fn check(&self, section: Section, row: u64) -> Result<(), Refusal>
         ensures { λ r. ⌜ r ≡ verdict (cardOf (now (self .entry))) section row ⌝ }
     {
         let index = self.count(section);

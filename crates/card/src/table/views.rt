@@ -1,7 +1,7 @@
 ghost use mathlib.Core.Path.{_≡_};
 ghost use Prim.Native.Nat.{_≤_};
 ghost use lib.ListN.{length};
-ghost use Rattle.card.specs.Cards.{Lawful, rowsOf, sectionOf, cardRows};
+ghost use Rattle.card.specs.Cards.{Lawful, rowsOf, sectionOf, sectionRows, cardRows};
 ghost use Rattle.card.specs.Tables.{cardOf};
 use super::Table;
 use code::length::WordLength;
@@ -9,7 +9,7 @@ use code::refusal::Section;
 
 impl Table {
     // The length of the card's words.
-    pub fn word_length(&self) -> WordLength
+    pub(crate) fn word_length(&self) -> WordLength
         ensures value { λ r. ⌜ r .places ≡ cardOf (now (self .entry)) .len ⌝ }
         ensures lawful { λ _. ⌜ Lawful (cardOf (now (self .entry))) ⌝ }
     {
@@ -17,8 +17,9 @@ impl Table {
     }
 
     // The rows of a section.
-    pub fn section_rows(&self, section: Section) -> &[u64]
+    pub(crate) fn section_rows(&self, section: Section) -> &[u64]
         ensures value { λ r. ⌜ now r ≡ sectionOf (cardOf (now (self .entry))) section ⌝ }
+        ensures few { λ r. ⌜ length (now r) ≤ sectionRows ⌝ }
         ensures lawful { λ _. ⌜ Lawful (cardOf (now (self .entry))) ⌝ }
     {
         let first_coset = self.group + self.transform;
@@ -30,7 +31,7 @@ impl Table {
     }
 
     // All rows.
-    pub fn all_rows(&self) -> &[u64]
+    pub(crate) fn all_rows(&self) -> &[u64]
         ensures value { λ r. ⌜ now r ≡ rowsOf (cardOf (now (self .entry))) ⌝ }
         ensures few { λ r. ⌜ length (now r) ≤ cardRows ⌝ }
         ensures lawful { λ _. ⌜ Lawful (cardOf (now (self .entry))) ⌝ }

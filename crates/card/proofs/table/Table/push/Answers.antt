@@ -6,10 +6,11 @@ use lib.ListN.{length, set, length-set}
 use Rattle.std.proofs.shelf.Results.{err-from-errBy}
 use Rattle.code.specs.declared.refusal.Section.{Section}
 use Rattle.code.specs.declared.refusal.Section.the-variants.{Group, Transform, Coset}
-use Rattle.card.specs.Cards.{pushed}
+use Rattle.card.specs.Cards.{pushed, Told}
 use Rattle.card.specs.Tables.{cardOf, Filling}
 use Rattle.card.proofs.Pushes.{Passed, passed, at-below, pushed-group, pushed-transform, pushed-coset}
 use Rattle.card.proofs.Lawful.{lawful-table, lawful-kept, kept-group, kept-transform, kept-coset}
+use Rattle.card.proofs.Told.{told-verdict}
 use Rattle.card.proofs.table.Table.push.Needs as need
 
 pub returns-in-Break-check : need.returns-in-Break-check
@@ -18,6 +19,7 @@ returns-in-Break-check c =
     let p = err-from-errBy (c .from-residual .result) (c .from-residual .ensures .1) in
     rw (p .1, p .2) (record {
       answer = c .in-Break-check .ensures tt;
+      told = subst (Told (cardOf t) (c .args .section) (c .args .row)) (sym (c .in-Break-check .ensures tt)) (told-verdict (cardOf t) (c .args .section) (c .args .row) (lawful-table t (search needs)));
       card = refl;
       refused = refl;
       filling = c .pre;
@@ -67,6 +69,7 @@ returns-in-Group c =
     let (zt, zc) = subst (Filling (t .transform) (t .coset)) (c .in-Group .is) (c .pre) in
     record {
       answer = c .in-Continue-check .ensures tt;
+      told = subst (Told (cardOf t) (c .args .section) row) (sym (c .in-Continue-check .ensures tt)) (told-verdict (cardOf t) (c .args .section) row (lawful-table t n));
       card = pushed-group (t .len .places) (t .group) (t .transform) (t .coset) row (t .rows) zt zc (omega arith) ∙ ap (λ (s : Section). pushed (cardOf t) s row) (sym (c .in-Group .is));
       refused = tt;
       filling = c .pre;
@@ -82,6 +85,7 @@ returns-in-Transform c =
     let zc = subst (Filling (t .transform) (t .coset)) (c .in-Transform .is) (c .pre) in
     record {
       answer = c .in-Continue-check .ensures tt;
+      told = subst (Told (cardOf t) (c .args .section) row) (sym (c .in-Continue-check .ensures tt)) (told-verdict (cardOf t) (c .args .section) row (lawful-table t n));
       card = pushed-transform (t .len .places) (t .group) (t .transform) (t .coset) row (t .rows) zc (omega arith) ∙ ap (λ (s : Section). pushed (cardOf t) s row) (sym (c .in-Transform .is));
       refused = tt;
       filling = subst (Filling (t .transform + 1) (t .coset)) (sym (c .in-Transform .is)) zc;
@@ -98,6 +102,7 @@ returns-in-Coset c =
     let lt = at-below t (c .args .section) row n q in
     record {
       answer = c .in-Continue-check .ensures tt;
+      told = subst (Told (cardOf t) (c .args .section) row) (sym (c .in-Continue-check .ensures tt)) (told-verdict (cardOf t) (c .args .section) row (lawful-table t n));
       card = pushed-coset (t .len .places) (t .group) (t .transform) (t .coset) row (t .rows) (omega (arith, lt)) ∙ ap (λ (s : Section). pushed (cardOf t) s row) (sym (c .in-Coset .is));
       refused = tt;
       filling = subst (Filling (t .transform) (t .coset + 1)) (sym (c .in-Coset .is)) tt;

@@ -1,0 +1,3 @@
+pub mod FileBytes
+pub mod RoundTrip
+pub mod RowsAdded

@@ -1,0 +1,3 @@
+mod bytes;
+pub mod read;
+pub mod write;

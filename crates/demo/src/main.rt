@@ -1,0 +1,29 @@
+mod cards;
+mod show;
+mod stages;
+
+use cards::cards;
+use show::show_code;
+use stages::one_head;
+use stages::refusals;
+use stages::two_heads;
+use std::error::AnyError;
+use std::io;
+
+// The code: words of five places, and four rows whose bit i is the digit at place i.
+const PLACES: usize = 5;
+
+const ROWS: [u64; 4] = [3, 6, 12, 17];
+
+fn run(rt: &LibcRuntime) -> io::Result<()> {
+    println!(rt, "Finding a catalogue number again on a worn strip.")?;
+    show_code(rt)?;
+    one_head(rt)?;
+    two_heads(rt)?;
+    refusals(rt)?;
+    cards(rt)
+}
+
+fn main(rt: LibcRuntime) -> Result<(), AnyError> {
+    rt.report(Ok(run(&rt)?))
+}
