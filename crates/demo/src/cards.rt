@@ -1,4 +1,3 @@
-use crate::PLACES;
 use crate::ROWS;
 use crate::show::show_list;
 use crate::show::show_refusal;
@@ -119,13 +118,11 @@ fn encode(rt: &LibcRuntime, card: &FinishedCard) -> io::Result<()> {
 }
 
 // Builds the code as a card and shows what is refused on the way.
-pub(crate) fn cards(rt: &LibcRuntime) -> io::Result<()> {
+pub(crate) fn cards(rt: &LibcRuntime, length: WordLength) -> io::Result<FinishedCard> {
     println!(rt, "\n== A card holds the code ==")?;
-    let Ok(length) = WordLength::new(PLACES) else {
-        return Ok(());
-    };
     let card = code_e(rt, length)?;
     row_2(rt, length)?;
     ninth_row(rt)?;
-    file(rt, &card)
+    file(rt, &card)?;
+    Ok(card)
 }

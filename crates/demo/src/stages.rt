@@ -18,7 +18,7 @@ use finder::Finder;
 use finder::fold::columns;
 use finder::fold::fold;
 use finder::plain::PlainFinder;
-use finder::plain::PlainFinderFinder;
+use finder::plain::PlainSearch;
 use hadamard::transform;
 use reading::Reading;
 use reading::level::Level;
