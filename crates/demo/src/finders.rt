@@ -23,6 +23,7 @@ use std::io;
 
 // The words of the Golay code are the multiples of a polynomial with these exponents; its rows are twelve shifts of it.
 const GOLAY: u64 = (1 << 0) | (1 << 1) | (1 << 5) | (1 << 6) | (1 << 7) | (1 << 9) | (1 << 11);
+
 const GOLAY_PLACES: usize = 23;
 
 // Messages of those rows whose words have no place in common.
@@ -76,13 +77,22 @@ fn full_card() -> Result<FinishedCard, Refusal> {
 }
 
 // Searches the word with a finder and prints what it finds.
-fn search<F: Finder>(rt: &LibcRuntime, name: &str, finder: &F, word: &mut [Level], work: &mut [Level]) -> io::Result<()> {
+fn search<F: Finder>(
+    rt: &LibcRuntime,
+    name: &str,
+    finder: &F,
+    word: &mut [Level],
+    work: &mut [Level],
+) -> io::Result<()> {
     let need = finder.need();
     match finder.search(word, work) {
         Ok(found) => {
             let message = found.message;
             let agreement = found.reading;
-            println!(rt, "  {name}: message {message} with agreement {agreement}, in {need} readings of work memory")
+            println!(
+                rt,
+                "  {name}: message {message} with agreement {agreement}, in {need} readings of work memory"
+            )
         }
         Err(refusal) => {
             print!(rt, "  {name}: ")?;
@@ -92,7 +102,12 @@ fn search<F: Finder>(rt: &LibcRuntime, name: &str, finder: &F, word: &mut [Level
 }
 
 // Searches the word with each finder of the card.
-fn search_all(rt: &LibcRuntime, card: &FinishedCard, word: &mut [Level], work: &mut [Level]) -> io::Result<()> {
+fn search_all(
+    rt: &LibcRuntime,
+    card: &FinishedCard,
+    word: &mut [Level],
+    work: &mut [Level],
+) -> io::Result<()> {
     let plain = plain_finder(card);
     let group = group_finder(card);
     let rows = group.row_count();
@@ -100,7 +115,10 @@ fn search_all(rt: &LibcRuntime, card: &FinishedCard, word: &mut [Level], work: &
     search(rt, "plain finder under coset layers", &plain, word, work)?;
     search(rt, "group finder under coset layers", &group, word, work)?;
     let rest = PlainFinder::new(card).row_count();
-    println!(rt, "Searched over the first {rest} rows alone, without the coset rows:")?;
+    println!(
+        rt,
+        "Searched over the first {rest} rows alone, without the coset rows:"
+    )?;
     search(rt, "plain finder", &PlainFinder::new(card), word, work)?;
     search(rt, "group finder", &GroupFinder::new(card), word, work)
 }
@@ -132,7 +150,10 @@ fn golay(rt: &LibcRuntime, work: &mut [Level]) -> Result<(), AnyError> {
         Err(refusal) => return Ok(show_refusal(rt, "The code", refusal)?),
     };
     if let Ok(word) = card.encode(2026) {
-        println!(rt, "Message 2026 is recorded. Places 2, 9 and 17 read the wrong way, places 5 and 20 dropped out:")?;
+        println!(
+            rt,
+            "Message 2026 is recorded. Places 2, 9 and 17 read the wrong way, places 5 and 20 dropped out:"
+        )?;
         let mut readings = worn(word);
         show_list(rt, &readings)?;
         search_all(rt, &card, &mut readings, work)?;
@@ -144,11 +165,23 @@ fn golay(rt: &LibcRuntime, work: &mut [Level]) -> Result<(), AnyError> {
 fn refused(rt: &LibcRuntime, card: &FinishedCard, work: &mut [Level]) -> io::Result<()> {
     println!(rt, "What the finders turn down:")?;
     let plain = plain_finder(card);
-    search(rt, "four readings", &plain, &mut [Level { value: 1 }; 4], work)?;
+    search(
+        rt,
+        "four readings",
+        &plain,
+        &mut [Level { value: 1 }; 4],
+        work,
+    )?;
     let mut loud = [Level { value: 1 }; PLACES];
     loud[3] = Level { value: 1048577 };
     search(rt, "a reading of 2^20 + 1", &plain, &mut loud, work)?;
-    search(rt, "no work memory", &plain, &mut [Level { value: 1 }; PLACES], &mut [])?;
+    search(
+        rt,
+        "no work memory",
+        &plain,
+        &mut [Level { value: 1 }; PLACES],
+        &mut [],
+    )?;
     let mut layer = CosetLayer::new(PlainFinder::new(card));
     for _ in 0..4 {
         let _ = layer.add_row(1);
@@ -174,7 +207,13 @@ pub(crate) fn finders(rt: &LibcRuntime, card: &FinishedCard) -> Result<(), AnyEr
     println!(rt, "The strip of message 11 again:")?;
     show_list(rt, &word)?;
     let [a, b, c, d, e] = word;
-    let mut readings = [Level { value: a }, Level { value: b }, Level { value: c }, Level { value: d }, Level { value: e }];
+    let mut readings = [
+        Level { value: a },
+        Level { value: b },
+        Level { value: c },
+        Level { value: d },
+        Level { value: e },
+    ];
     search_all(rt, card, &mut readings, &mut work)?;
     refused(rt, card, &mut work)?;
     golay(rt, &mut work)

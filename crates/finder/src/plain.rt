@@ -21,7 +21,6 @@ use code::refusal::Section;
 use hadamard::transform;
 use reading::Reading;
 
-
 // The plain finder: the rows of a card's group and transform sections, at most 16, the first `count` of the table.
 #[derive(Clone, Copy)]
 pub struct PlainFinder {

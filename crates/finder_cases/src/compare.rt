@@ -30,7 +30,9 @@ pub impl Weighed for Level as WeighedLevel {
 
 pub impl Weighed for TwoHead as WeighedTwoHead {
     fn weighed(self) -> i64 {
-        i64::from(self.main).wrapping_mul(4294967296).wrapping_add(i64::from(self.second))
+        i64::from(self.main)
+            .wrapping_mul(4294967296)
+            .wrapping_add(i64::from(self.second))
     }
 
     fn is_same(self, other: TwoHead) -> bool {
@@ -49,7 +51,14 @@ fn same<R: Weighed>(a: &[R], b: &[R]) -> bool {
 }
 
 // A search that answers what is due, and leaves the word and the memory beyond the need as they were.
-pub(crate) fn finds<R: Weighed, F: Finder>(finder: &F, word: &mut [R], before: &[R], work: &mut [R], mark: R, due: Due) -> Result<(), Failure> {
+pub(crate) fn finds<R: Weighed, F: Finder>(
+    finder: &F,
+    word: &mut [R],
+    before: &[R],
+    work: &mut [R],
+    mark: R,
+    due: Due,
+) -> Result<(), Failure> {
     for x in work.iter_mut() {
         *x = mark;
     }
@@ -71,7 +80,14 @@ pub(crate) fn finds<R: Weighed, F: Finder>(finder: &F, word: &mut [R], before: &
 }
 
 // A search that is refused so, and changes nothing.
-pub(crate) fn refuses<R: Weighed, F: Finder>(finder: &F, word: &mut [R], before: &[R], work: &mut [R], mark: R, due: Refusal) -> Result<(), Failure> {
+pub(crate) fn refuses<R: Weighed, F: Finder>(
+    finder: &F,
+    word: &mut [R],
+    before: &[R],
+    work: &mut [R],
+    mark: R,
+    due: Refusal,
+) -> Result<(), Failure> {
     for x in work.iter_mut() {
         *x = mark;
     }

@@ -37,7 +37,14 @@ fn run(rt: &LibcRuntime) -> Result<(), Failure> {
     for seed in 1..CARDS + 1 {
         let mut random = Random::new(seed);
         let card = random_card(&mut random)?;
-        try_card(&card, &mut random, WORDS, levels.as_mut_slice(), heads.as_mut_slice(), &mut seen)?;
+        try_card(
+            &card,
+            &mut random,
+            WORDS,
+            levels.as_mut_slice(),
+            heads.as_mut_slice(),
+            &mut seen,
+        )?;
     }
     let (cards, words, ties, searches) = (seen.cards, seen.words, seen.ties, seen.searches);
     let (layers, refusals) = (seen.layers, seen.refusals);

@@ -7,6 +7,37 @@ use code::refusal::Refusal;
 // The most rows of a card here, so that a plain search over all messages stays short.
 pub(crate) const MOST_ROWS: usize = 12;
 
+// A list of at most so many rows.
+#[derive(Clone, Copy)]
+pub struct Rows {
+    rows: [u64; MOST_ROWS],
+    count: usize,
+}
+
+impl Rows {
+    pub(crate) fn new() -> Rows {
+        Rows {
+            rows: [0; MOST_ROWS],
+            count: 0,
+        }
+    }
+
+    pub(crate) fn has_room(&self) -> bool {
+        self.count < MOST_ROWS
+    }
+
+    pub(crate) fn push(&mut self, row: u64) {
+        if self.count < MOST_ROWS {
+            self.rows[self.count] = row;
+            self.count += 1;
+        }
+    }
+
+    pub(crate) fn all(&self) -> &[u64] {
+        &self.rows[0..self.count.min(MOST_ROWS)]
+    }
+}
+
 // A sequence of pseudo-random numbers.
 #[derive(Clone, Copy)]
 pub struct Random {
@@ -37,7 +68,7 @@ impl Random {
     }
 
     // A row of so many places.
-    fn row(&mut self, places: usize) -> u64 {
+    pub(crate) fn row(&mut self, places: usize) -> u64 {
         let high = self.next() << 32;
         (self.next() ^ high) >> (64usize.wrapping_sub(places) % 64)
     }
@@ -59,7 +90,7 @@ fn group_rows(random: &mut Random, places: usize, count: usize) -> [u64; 8] {
 
 // A card of a random length with rows in all sections; rows that are refused are left out.
 pub(crate) fn random_card(random: &mut Random) -> Result<FinishedCard, Refusal> {
-    let places = random.below(64) + 1;
+    let places = random.below(64).wrapping_add(1);
     let mut left = MOST_ROWS;
     let mut group = GroupCard::new(WordLength::new(places)?);
     let count = random.below(9);

@@ -9,8 +9,8 @@ use crate::failure::Failure;
 use crate::failure::FromRefusal;
 use crate::failure::expect;
 use crate::plainly::search_all;
-use crate::random::MOST_ROWS;
 use crate::random::Random;
+use crate::random::Rows;
 use card::states::FinishedCard;
 use card_finder::group_finder;
 use card_finder::plain_finder;
@@ -55,7 +55,9 @@ fn small(random: &mut Random) -> i32 {
 fn level_word(random: &mut Random) -> [Level; 64] {
     let mut word = [Level { value: 0 }; 64];
     for x in word.iter_mut() {
-        *x = Level { value: small(random) };
+        *x = Level {
+            value: small(random),
+        };
     }
     word
 }
@@ -81,7 +83,14 @@ fn weights_of<R: Weighed>(word: &[R]) -> [i64; 64] {
 }
 
 // A word searched with the plain finder, the group finder and one of the two, each under the coset layers of the card.
-fn try_word<R: Weighed>(card: &FinishedCard, word: &mut [R], before: &[R], work: &mut [R], mark: R, seen: &mut Seen) -> Result<(), Failure> {
+fn try_word<R: Weighed>(
+    card: &FinishedCard,
+    word: &mut [R],
+    before: &[R],
+    work: &mut [R],
+    mark: R,
+    seen: &mut Seen,
+) -> Result<(), Failure> {
     let weights = weights_of(before);
     let due = search_all(card.rows(), &weights[0..before.len().min(64)]);
     let plain = plain_finder(card);
@@ -105,35 +114,50 @@ fn try_word<R: Weighed>(card: &FinishedCard, word: &mut [R], before: &[R], work:
 }
 
 // The group finder under a layer whose rows may depend on others.
-fn try_layer(card: &FinishedCard, random: &mut Random, word: &mut [Level], before: &[Level], work: &mut [Level], seen: &mut Seen) -> Result<(), Failure> {
+fn try_layer(
+    card: &FinishedCard,
+    random: &mut Random,
+    word: &mut [Level],
+    before: &[Level],
+    work: &mut [Level],
+    seen: &mut Seen,
+) -> Result<(), Failure> {
     let mark = Level { value: 77 };
-    let mut rows = [0u64; MOST_ROWS];
-    let mut count = 0;
-    for row in card.section_rows(Section::Group).iter().chain(card.section_rows(Section::Transform).iter()) {
-        if count < MOST_ROWS {
-            rows[count] = *row;
-            count += 1;
-        }
+    let mut rows = Rows::new();
+    for row in card.section_rows(Section::Group) {
+        rows.push(*row);
+    }
+    for row in card.section_rows(Section::Transform) {
+        rows.push(*row);
     }
     let mut layer = CosetLayer::new(GroupFinder::new(card));
     for j in 0..4usize {
-        let row = if j == 1 { rows[0] } else { random.next() >> (64usize.wrapping_sub(before.len()) % 64) };
-        if count < MOST_ROWS && layer.add_row(row).is_ok() {
-            rows[count] = row;
-            count += 1;
+        let drawn = random.row(before.len());
+        let row = if j == 1 {
+            rows.all().first().copied().unwrap_or(drawn)
+        } else {
+            drawn
+        };
+        if rows.has_room() && layer.add_row(row).is_ok() {
+            rows.push(row);
         }
     }
-    let rows = &rows[0..count.min(MOST_ROWS)];
     let weights = weights_of(before);
-    let due = search_all(rows, &weights[0..before.len().min(64)]);
-    tells(&layer, rows)?;
+    let due = search_all(rows.all(), &weights[0..before.len().min(64)]);
+    tells(&layer, rows.all())?;
     finds(&layer, word, before, work, mark, due)?;
     seen.layers = seen.layers.wrapping_add(1);
     Ok(())
 }
 
 // A word of another length, a reading too large, and work memory one below the need.
-fn try_refusals(card: &FinishedCard, random: &mut Random, word: &mut [Level], work: &mut [Level], seen: &mut Seen) -> Result<(), Failure> {
+fn try_refusals(
+    card: &FinishedCard,
+    random: &mut Random,
+    word: &mut [Level],
+    work: &mut [Level],
+    seen: &mut Seen,
+) -> Result<(), Failure> {
     let mark = Level { value: 77 };
     let group = group_finder(card);
     let places = word.len().min(64);
@@ -141,35 +165,85 @@ fn try_refusals(card: &FinishedCard, random: &mut Random, word: &mut [Level], wo
     for (x, y) in before.iter_mut().zip(word.iter()) {
         *x = *y;
     }
-    refuses(&group, &mut word[0..places / 2], &before[0..places / 2], work, mark, Refusal::WordLengthDiffers)?;
+    refuses(
+        &group,
+        &mut word[0..places / 2],
+        &before[0..places / 2],
+        work,
+        mark,
+        Refusal::WordLengthDiffers,
+    )?;
     let need = group.need();
     if need > 0 && need <= work.len() {
-        refuses(&group, word, &before[0..places], &mut work[0..need - 1], mark, Refusal::WorkMemoryShort)?;
+        refuses(
+            &group,
+            word,
+            &before[0..places],
+            &mut work[0..need - 1],
+            mark,
+            Refusal::WorkMemoryShort,
+        )?;
     }
     let place = random.below(places);
     if place < places {
         word[place] = Level { value: 1048577 };
         before[place] = Level { value: 1048577 };
-        refuses(&group, word, &before[0..places], work, mark, Refusal::SizeTooLarge { place })?;
+        refuses(
+            &group,
+            word,
+            &before[0..places],
+            work,
+            mark,
+            Refusal::SizeTooLarge { place },
+        )?;
     }
     seen.refusals = seen.refusals.wrapping_add(3);
     Ok(())
 }
 
 // One card with so many words of each kind.
-pub(crate) fn try_card(card: &FinishedCard, random: &mut Random, words: u32, levels: &mut [Level], heads: &mut [TwoHead], seen: &mut Seen) -> Result<(), Failure> {
+pub(crate) fn try_card(
+    card: &FinishedCard,
+    random: &mut Random,
+    words: u32,
+    levels: &mut [Level],
+    heads: &mut [TwoHead],
+    seen: &mut Seen,
+) -> Result<(), Failure> {
     let places = card.word_length().places();
     seen.cards = seen.cards.wrapping_add(1);
     for _ in 0..words {
         let before = level_word(random);
         let mut word = before;
-        try_word(card, &mut word[0..places], &before[0..places], levels, Level { value: 77 }, seen)?;
+        try_word(
+            card,
+            &mut word[0..places],
+            &before[0..places],
+            levels,
+            Level { value: 77 },
+            seen,
+        )?;
         let before = two_head_word(random);
         let mut word = before;
-        try_word(card, &mut word[0..places], &before[0..places], heads, TwoHead { main: 7, second: 7 }, seen)?;
+        try_word(
+            card,
+            &mut word[0..places],
+            &before[0..places],
+            heads,
+            TwoHead { main: 7, second: 7 },
+            seen,
+        )?;
     }
     let before = level_word(random);
     let mut word = before;
-    try_layer(card, random, &mut word[0..places], &before[0..places], levels, seen)?;
+    try_layer(
+        card,
+        random,
+        &mut word[0..places],
+        &before[0..places],
+        levels,
+        seen,
+    )?;
+    let mut word = before;
     try_refusals(card, random, &mut word[0..places], levels, seen)
 }
