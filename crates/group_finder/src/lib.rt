@@ -147,7 +147,7 @@ pub impl Finder for GroupFinder as GroupSearch {
         search_group(
             self.group_rows(),
             self.other_rows(),
-            self.plain.length(),
+            self.length(),
             self.need(),
             word,
             work,

@@ -1,6 +1,7 @@
 ghost use mathlib.Core.Path.{_≡_};
 ghost use Prim.Native.Nat.{ℕ, _+_, _*_, _/_, _^_, _<_, _≤_};
 ghost use lib.ListN.{length, getD};
+ghost use Rattle.std.specs.Options.{Cases as BySome};
 ghost use Rattle.std.specs.shelf.Lists.{sumBy};
 ghost use Rattle.card.specs.Cards.{sectionRows};
 ghost use Rattle.code.specs.Limits.{sumLimit};
@@ -11,6 +12,19 @@ use finder::fold::columns;
 use hadamard::transform;
 use reading::Reading;
 
+// The slot j + 1 of a column in which row j alone has digit 1, if it is one; another column, if it is not 0, has all of at least two digits.
+fn single_slot(c: usize, count: usize) -> Option<usize>
+    requires { ⌜ count ≤ sectionRows ⌝ ∗ ⌜ Concurs count c ⌝ }
+    ensures { λ r. ⌜ BySome r ((c ≡ 0 → ⊥) → Slotted count c (count + 1)) (λ q. Slotted count c q) ⌝ }
+{
+    for j in 0..count {
+        if c == 1usize << j {
+            return Some(j + 1);
+        }
+    }
+    None
+}
+
 // The slot of a place by its column of the group rows: 0 where no row has digit 1 there, j + 1 where row j alone has it, count + 1 where all of at least two have it.
 fn slot_of(c: usize, count: usize) -> usize
     requires { ⌜ count ≤ sectionRows ⌝ ∗ ⌜ Concurs count c ⌝ }
@@ -19,12 +33,10 @@ fn slot_of(c: usize, count: usize) -> usize
     if c == 0 {
         return 0;
     }
-    for j in 0..count {
-        if c == 1usize << j {
-            return j + 1;
-        }
+    match single_slot(c, count) {
+        Some(slot) => slot,
+        None => count + 1,
     }
-    count + 1
 }
 
 // For each place of a word the entry that its reading goes to: its slot's list, and there its column of the other rows.
