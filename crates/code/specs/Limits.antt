@@ -16,3 +16,11 @@ fullLabel = 1024
 -- the largest total of sizes at which readings are added, negated and transformed
 abbrev pub sumLimit : ℕ
 sumLimit = 2 ^ 28
+
+-- the largest size of a reading in a word that is searched
+abbrev pub sizeLimit : ℕ
+sizeLimit = 2 ^ 20
+
+-- the largest number of rows that are searched
+abbrev pub maxRows : ℕ
+maxRows = 24

@@ -10,7 +10,7 @@ use super::SECTION_ROWS;
 use super::Table;
 use crate::concurrence::concurs;
 use crate::dependence::is_dependent;
-use code::length::MAX_PLACES;
+use code::limits::MAX_PLACES;
 use code::refusal::Refusal;
 use code::refusal::Section;
 

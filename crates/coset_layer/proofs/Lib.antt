@@ -1,0 +1,3 @@
+pub mod Opposites
+pub mod Piles
+pub mod Turns

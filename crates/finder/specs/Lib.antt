@@ -1,0 +1,4 @@
+pub mod Search
+pub mod Sides
+pub mod Same
+pub mod Fold
