@@ -1,0 +1,15 @@
+use mathlib.Core.List.{[]}
+use borrow.Author.Needs.{needs}
+use Rattle.sheet.proofs.Runs.{ran-over}
+use Rattle.sheet.proofs.run.run_laid_out.Needs as need
+
+pub returns : need.returns
+returns g c =
+    let r = c .run-n .ensures in
+    let w = c .new-sheet .ensures in
+    record {
+      law = ran-over _ _ _ _ _ _ _ _ _ _ (c .args .cells .now) _ (c .new-sheet .result) (c .run-n .last .self) _ (w .long) (w .beyond) (r .kept) (search needs) (r .law [] (w .stands));
+      done = r .done;
+      spared = r .spared;
+      rest = r .rest;
+    }
