@@ -15,7 +15,7 @@ use Rattle.sheet.specs.declared.run.Answer.{Answer}
 use Rattle.sheet.specs.Cells.{covered}
 use Rattle.sheet.specs.Book.{Call, bookOf}
 use Rattle.sheet.specs.Stands.{cellsOf, Stands, Booked, Kept}
-use Rattle.sheet.specs.Runs.{callOf, callsOf, used, AnswersTo, Ran, Spared, RanOver}
+use Rattle.sheet.specs.Runs.{callOf, callsOf, used, AnswersTo, Ran, Spared}
 
 -- what is dropped from equal rests is equal
 pub drop-further : {X : Type 0} (a b : ℕ) (xs ys : List X) → a ≤ b → drop a xs ≡ drop a ys → drop b xs ≡ drop b ys
@@ -70,13 +70,15 @@ module _ {R F : Type 0} (weight : R → ℤ) (size : R → ℕ) (m s : ℕ) (spa
       }
 
   pub ran-over : (n : ℕ) (xs ys : List R) (t u : Sheet R) (os : List (Answer R)) → length (cellsOf t) ≡ length xs → drop maxPlaces (cellsOf t) ≡ drop maxPlaces xs → Kept t u → ys ≡ cellsOf u →
-      Ran weight size m s span rows need work [] reqs n t u os → RanOver weight size m s span rows need work reqs n (u .passes) xs ys os
+      Ran weight size m s span rows need work [] reqs n t u os →
+      (u .passes ≡ bookOf m s (covered xs) (callsOf n reqs) .count)
+      × (map weight (take maxPlaces ys) ≡ bookOf m s (covered xs) (callsOf n reqs) .totals)
+      × ((k : ℕ) (q : Request F) (a : Answer R) → k < n → AnswersTo weight span rows need work (bookOf m s (covered xs) (callsOf k reqs)) (getD reqs k q) (getD os k a))
+      × (drop maxPlaces ys ≡ drop maxPlaces xs)
   ran-over n xs ys t u os lt dt kept is ran =
-      let a : covered (cellsOf u) ≡ covered xs = ap (min maxPlaces) (kept .long ∙ lt) in
-      record {
-        counted = ran .stands .count ∙ ap (λ k. bookOf m s k (callsOf n reqs) .count) a;
-        totals = ap (λ zs. map weight (take maxPlaces zs)) is ∙ ran .stands .totals ∙ ap (λ k. bookOf m s k (callsOf n reqs) .totals) a;
-        beyond = ap (drop maxPlaces) is ∙ kept .beyond ∙ dt;
-        answered = λ k q e hk.
-            subst (λ j. AnswersTo weight span rows need work (bookOf m s j (callsOf k reqs)) (getD reqs k q) (getD os k e)) (ap (min maxPlaces) lt) (ran .answered k q e hk);
-      }
+      let a : covered (cellsOf u) ≡ covered xs = ap (min maxPlaces) (kept .long ∙ lt) in (
+        ran .stands .count ∙ ap (λ k. bookOf m s k (callsOf n reqs) .count) a,
+        ap (λ zs. map weight (take maxPlaces zs)) is ∙ ran .stands .totals ∙ ap (λ k. bookOf m s k (callsOf n reqs) .totals) a,
+        λ k q e hk. subst (λ j. AnswersTo weight span rows need work (bookOf m s j (callsOf k reqs)) (getD reqs k q) (getD os k e)) (ap (min maxPlaces) lt) (ran .answered k q e hk),
+        ap (drop maxPlaces) is ∙ kept .beyond ∙ dt,
+      )

@@ -17,12 +17,13 @@ use Rattle.code.specs.Limits.{maxPlaces, sizeLimit}
 use Rattle.code.specs.Words.{Best, agrees}
 use Rattle.code.specs.declared.refusal.Refusal.{Refusal}
 use Rattle.code.specs.declared.refusal.Refusal.the-variants.{SizeTooLarge}
+use Rattle.code.proofs.Tops.{best-unique}
 use Rattle.finder.specs.declared.found.Found.{Found}
 use Rattle.finder.specs.Search.{largeFrom, refusal, Answered, Refused}
 use Rattle.finder.proofs.Refusals.{wrong-length, right-length, memory-short, memory-fits}
 use Rattle.sheet.specs.declared.Sheet.{Sheet}
 use Rattle.sheet.specs.Book.{Call, SearchRule}
-use Rattle.sheet.specs.Stands.{cellsOf, front, bookAt, Stands}
+use Rattle.sheet.specs.Stands.{cellsOf, front, bookAt, Stands, SameFound}
 
 none-large : (i : ℕ) (ss : List ℕ) (after : Option Refusal) → ((k : ℕ) → k < length ss → getD ss k 0 ≤ sizeLimit) → largeFrom i ss after ≡ after
 none-large i [] after all = refl
@@ -74,3 +75,19 @@ searched weight size m s h t span rows need work after r a st =
     let e = ap size (getD-take maxPlaces (cellsOf t) k d (omega arith)) in
     let o = st .light k d (omega arith) in let f = st .few in omega arith)
     a)
+
+-- two searches of the same cells with the same rows agree
+pub both-agree : {R : Type 0} (weight : R → ℤ) (size : R → ℕ) (t u : Sheet R) (span : ℕ) (rows : List ℕ) (need span′ : ℕ) (rows′ : List ℕ) (need′ : ℕ) (work left after : List R) (r r′ : Result (Found R) Refusal) → cellsOf u ≡ cellsOf t →
+    Cases r (λ f. Answered weight size span rows need (front t) work left (f .message) (f .reading)) (λ e. Refused size span need (front t) work left e) →
+    Cases r′ (λ f. Answered weight size span′ rows′ need′ (front u) left after (f .message) (f .reading)) (λ e. Refused size span′ need′ (front u) left after e) →
+    rows ≡ rows′ → SameFound weight r r′
+both-agree weight size t u span rows need span′ rows′ need′ work left after (Ok f) (Ok g) same a b eq =
+    let ws = ap (λ xs. map weight (take maxPlaces xs)) same in
+    let other = subst (λ x. Best x (map weight (front t)) (g .message)) (sym eq) (subst (λ x. Best rows′ x (g .message)) ws (b .is-best)) in
+    let m = best-unique rows (map weight (front t)) (f .message) (g .message) (a .is-best) other in (
+      m,
+      a .weighs ∙ ap (agrees rows (map weight (front t))) m ∙ ap (λ x. agrees x (map weight (front t)) (g .message)) eq
+          ∙ ap (λ x. agrees rows′ x (g .message)) (sym ws) ∙ sym (b .weighs),
+    )
+both-agree weight size t u span rows need span′ rows′ need′ work left after (Ok f) (Err e) same a b eq = tt
+both-agree weight size t u span rows need span′ rows′ need′ work left after (Err e) r′ same a b eq = tt

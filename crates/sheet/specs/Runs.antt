@@ -71,11 +71,14 @@ module _ {R F : Type 0} (weight : R → ℤ) (size : R → ℕ) (main second : �
     pub answered : (k : ℕ) (q : Request F) (a : Answer R) → k < n →
         AnswersTo weight span rows need work (bookOf main second (covered (cellsOf t)) (h ++ callsOf k requests)) (getD requests k q) (getD answers k a)
 
-  -- the law of runs: the first n requests, made of a sheet laid out over the cells xs, left the cells ys, each covered cell at its standing total,
-  -- and that pass count, and each request was answered as the book has it after the requests before
-  pub record RanOver (requests : List (Request F)) (n count : ℕ) (xs ys : List R) (answers : List (Answer R)) : Type 0 where
-    pub counted : count ≡ bookOf main second (covered xs) (callsOf n requests) .count
-    pub totals : map weight (take maxPlaces ys) ≡ bookOf main second (covered xs) (callsOf n requests) .totals
+-- the law of runs: requests made of a sheet laid out over the cells xs left the cells ys, each covered cell at its standing total, and that pass count;
+-- each request was answered as the book has it after the requests before; work memory beyond the needs, cells beyond the sheet and answers beyond the requests stay
+module _ {R F : Type 0} (weight : R → ℤ) (size : R → ℕ) (main second : ℕ) (span : F → ℕ) (rows : F → List ℕ) (need : F → ℕ) where
+  pub record RanOver (requests : List (Request F)) (count : ℕ) (xs ys work after : List R) (old answers : List (Answer R)) : Type 0 where
+    pub answered : (k : ℕ) (q : Request F) (a : Answer R) → k < length requests →
+        AnswersTo weight span rows need (length work) (bookOf main second (covered xs) (callsOf k requests)) (getD requests k q) (getD answers k a)
+    pub counted : count ≡ bookOf main second (covered xs) (callsOf (length requests) requests) .count
+    pub totals : map weight (take maxPlaces ys) ≡ bookOf main second (covered xs) (callsOf (length requests) requests) .totals
     pub beyond : drop maxPlaces ys ≡ drop maxPlaces xs
-    pub answered : (k : ℕ) (q : Request F) (a : Answer R) → k < n →
-        AnswersTo weight span rows need work (bookOf main second (covered xs) (callsOf k requests)) (getD requests k q) (getD answers k a)
+    pub spared : Spared need requests (length requests) answers work after
+    pub rest : drop (length requests) answers ≡ drop (length requests) old

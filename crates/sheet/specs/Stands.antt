@@ -7,6 +7,7 @@ use lib.ListN.{length, getD, set, take, drop}
 use lib.IntN.{ℤ}
 use Rattle.std.specs.Results.{Cases}
 use Rattle.std.specs.declared.result.Result.{Result}
+use Rattle.std.specs.declared.result.Result.the-variants.{Ok, Err}
 use Rattle.code.specs.Limits.{maxPlaces, fullLabel}
 use Rattle.code.specs.declared.refusal.Refusal.{Refusal}
 use Rattle.code.specs.declared.refusal.Refusal.the-variants.{PlaceOffSheet}
@@ -33,6 +34,12 @@ pub record Kept {R : Type 0} (t u : Sheet R) : Type 0 where
 pub record Same {R : Type 0} (t u : Sheet R) : Type 0 where
   pub cells : cellsOf u ≡ cellsOf t
   pub passes : u .passes ≡ t .passes
+
+-- where both found something, it is the same message and the same weight
+abbrev pub SameFound : {R : Type 0} → (R → ℤ) → Result (Found R) Refusal → Result (Found R) Refusal → Type 0
+SameFound weight (Ok f) (Ok g) = (f .message ≡ g .message) × (weight (f .reading) ≡ weight (g .reading))
+SameFound weight (Ok f) (Err e) = Unit {0}
+SameFound weight (Err e) r = Unit {0}
 
 module _ {R : Type 0} (weight : R → ℤ) (size : R → ℕ) (main second : ℕ) where
   -- the book of the sheet t after the calls h
@@ -79,3 +86,11 @@ module _ {R : Type 0} (weight : R → ℤ) (size : R → ℕ) (main second : ℕ
         (λ f. Answered weight size span rows need (front t) work after (f .message) (f .reading))
         (λ e. Refused size span need (front t) work after e)
     pub same : Same t u
+
+  -- a search of t by one finder, then by another
+  pub record BothLaw (t u : Sheet R) (span : ℕ) (rows : List ℕ) (need span′ : ℕ) (rows′ : List ℕ) (need′ : ℕ) (work after : List R) (r r′ : Result (Found R) Refusal) : Type 0 where
+    pub between : Sheet R
+    pub left : List R
+    pub by-first : SearchLaw t between span rows need work left r
+    pub by-second : SearchLaw between u span′ rows′ need′ left after r′
+    pub agree : rows ≡ rows′ → SameFound weight r r′

@@ -9,7 +9,7 @@ ghost use lib.ListN.{length, take, drop};
 ghost use Rattle.std.specs.Results.{Cases};
 ghost use Rattle.code.specs.Limits.{maxPlaces};
 ghost use Rattle.sheet.specs.Book.{Call};
-ghost use Rattle.sheet.specs.Stands.{Stands, Kept, PassLaw, StrikeLaw, ClearLaw, SearchLaw, cellsOf};
+ghost use Rattle.sheet.specs.Stands.{Stands, Kept, PassLaw, StrikeLaw, ClearLaw, SearchLaw, BothLaw, cellsOf};
 use crate::cells::add_pass;
 use crate::cells::blank;
 use crate::cells::covering;
@@ -114,5 +114,33 @@ impl<'a, R: Reading> Sheet<'a, R> {
     {
         let n = covering(self.cells.len());
         finder.search(&mut self.cells[0..n], work)
+    }
+
+    // Searches with one finder and then with another, in the same work memory; answers what each answers.
+    // Where both find and have the same rows in the same order, they find the same message and the same weight.
+    pub fn search_both<A: Finder, B: Finder>(
+        &mut self,
+        a: &A,
+        b: &B,
+        work: &mut [R],
+    ) -> (Result<Found<R>, Refusal>, Result<Found<R>, Refusal>)
+        ensures law { λ r. ⌜ BothLaw weight size «MAIN_UNIT» «SECOND_UNIT» (now (self .entry)) (now (self .exit)) (A·Finder .span (now (a .entry))) (A·Finder .rows (now (a .entry))) (A·Finder .need (now (a .entry))) (B·Finder .span (now (b .entry))) (B·Finder .rows (now (b .entry))) (B·Finder .need (now (b .entry))) (now (work .entry)) (now (work .exit)) (r .0) (r .1) ⌝ }
+        ensures named { λ _. ⌜ name (now (self .exit) .cells) ≡ name (now (self .entry) .cells) ⌝ }
+    {
+        self.search_twice(a, b, work)
+    }
+
+    fn search_twice<A: Finder, B: Finder>(
+        &mut self,
+        a: &A,
+        b: &B,
+        work: &mut [R],
+    ) -> (Result<Found<R>, Refusal>, Result<Found<R>, Refusal>)
+        ensures law { λ r. ⌜ BothLaw weight size «MAIN_UNIT» «SECOND_UNIT» (now (self .entry)) (now (self .exit)) (A·Finder .span (now (a .entry))) (A·Finder .rows (now (a .entry))) (A·Finder .need (now (a .entry))) (B·Finder .span (now (b .entry))) (B·Finder .rows (now (b .entry))) (B·Finder .need (now (b .entry))) (now (work .entry)) (now (work .exit)) (r .0) (r .1) ⌝ }
+        ensures named { λ _. ⌜ name (now (self .exit) .cells) ≡ name (now (self .entry) .cells) ⌝ }
+    {
+        let first = self.search_covered(a, work);
+        let second = self.search_covered(b, work);
+        (first, second)
     }
 }

@@ -1,8 +1,10 @@
 ghost use mathlib.Core.Path.{_≡_};
 ghost use mathlib.Core.List.{List};
-ghost use Prim.Native.Nat.{min};
+ghost use Prim.Native.Nat.{_<_, _≤_};
 ghost use denote.Ref.{name};
 ghost use lib.ListN.{length, drop};
+ghost use Rattle.std.specs.Results.{Cases};
+ghost use Rattle.code.specs.declared.refusal.Refusal.the-variants.{OutputShort};
 ghost use Rattle.sheet.specs.Book.{Call};
 ghost use Rattle.sheet.specs.Stands.{Stands, Kept};
 ghost use Rattle.sheet.specs.Runs.{Served, Ran, Spared, RanOver};
@@ -49,57 +51,51 @@ impl<'a, R: Reading> Sheet<'a, R> {
         }
     }
 
-    // Makes the requests in order, as many as there is room for answers, and answers how many those were.
-    fn run<F: Finder>(
-        &mut self,
-        requests: &[Request<F>],
-        work: &mut [R],
-        answers: &mut [Answer<R>],
-    ) -> usize
-        ensures done { λ r. ⌜ r ≡ min (length (now (requests .entry))) (length (now (answers .entry))) ⌝ }
-        ensures law { λ r. ⌜ ((h : List Call) → Stands weight size «MAIN_UNIT» «SECOND_UNIT» h (now (self .entry)) → Ran weight size «MAIN_UNIT» «SECOND_UNIT» (F·Finder .span) (F·Finder .rows) (F·Finder .need) (length (now (work .entry))) h (now (requests .entry)) r (now (self .entry)) (now (self .exit)) (now (answers .exit))) ⌝ }
+    // Makes the requests in order and writes the answers out.
+    fn run<F: Finder>(&mut self, requests: &[Request<F>], work: &mut [R], answers: &mut [Answer<R>])
+        requires { ⌜ length (now requests) ≤ length (now answers) ⌝ }
+        ensures law { λ _. ⌜ ((h : List Call) → Stands weight size «MAIN_UNIT» «SECOND_UNIT» h (now (self .entry)) → Ran weight size «MAIN_UNIT» «SECOND_UNIT» (F·Finder .span) (F·Finder .rows) (F·Finder .need) (length (now (work .entry))) h (now (requests .entry)) (length (now (requests .entry))) (now (self .entry)) (now (self .exit)) (now (answers .exit))) ⌝ }
         ensures kept { λ _. ⌜ Kept (now (self .entry)) (now (self .exit)) ⌝ }
-        ensures spared { λ r. ⌜ Spared (F·Finder .need) (now (requests .entry)) r (now (answers .exit)) (now (work .entry)) (now (work .exit)) ⌝ }
-        ensures rest { λ r. ⌜ drop r (now (answers .exit)) ≡ drop r (now (answers .entry)) ⌝ }
+        ensures spared { λ _. ⌜ Spared (F·Finder .need) (now (requests .entry)) (length (now (requests .entry))) (now (answers .exit)) (now (work .entry)) (now (work .exit)) ⌝ }
+        ensures rest { λ _. ⌜ drop (length (now (requests .entry))) (now (answers .exit)) ≡ drop (length (now (requests .entry))) (now (answers .entry)) ⌝ }
         ensures named { λ _. ⌜ name (now (self .exit) .cells) ≡ name (now (self .entry) .cells) ⌝ }
     {
-        let n = requests.len().min(answers.len());
-        for i in 0..n {
+        for i in 0..requests.len() {
             answers[i] = self.serve(&requests[i], work);
         }
-        n
     }
 }
 
+// Lays out a sheet over the cells and makes the requests of it; answers the pass count.
 fn run_laid_out<R: Reading, F: Finder>(
     cells: &mut [R],
     requests: &[Request<F>],
     work: &mut [R],
     answers: &mut [Answer<R>],
-) -> (usize, u32)
-    ensures law { λ r. ⌜ RanOver weight size «MAIN_UNIT» «SECOND_UNIT» (F·Finder .span) (F·Finder .rows) (F·Finder .need) (length (now (work .entry))) (now (requests .entry)) (r .0) (r .1) (now (cells .entry)) (now (cells .exit)) (now (answers .exit)) ⌝ }
-    ensures done { λ r. ⌜ r .0 ≡ min (length (now (requests .entry))) (length (now (answers .entry))) ⌝ }
-    ensures spared { λ r. ⌜ Spared (F·Finder .need) (now (requests .entry)) (r .0) (now (answers .exit)) (now (work .entry)) (now (work .exit)) ⌝ }
-    ensures rest { λ r. ⌜ drop (r .0) (now (answers .exit)) ≡ drop (r .0) (now (answers .entry)) ⌝ }
+) -> u32
+    requires { ⌜ length (now requests) ≤ length (now answers) ⌝ }
+    ensures { λ r. ⌜ RanOver weight size «MAIN_UNIT» «SECOND_UNIT» (F·Finder .span) (F·Finder .rows) (F·Finder .need) (now (requests .entry)) r (now (cells .entry)) (now (cells .exit)) (now (work .entry)) (now (work .exit)) (now (answers .entry)) (now (answers .exit)) ⌝ }
 {
     let mut sheet = Sheet::new(cells);
-    let n = sheet.run(requests, work, answers);
-    let count = sheet.passes;
-    (n, count)
+    sheet.run(requests, work, answers);
+    sheet.passes
 }
 
-// Lays out a sheet over the cells and makes the requests of it in order, as many as there is room for answers.
-// Answers how many those were and the pass count; the law of runs is its contract.
+// Lays out a sheet over the cells, makes the requests of it in order, and writes an answer to each; answers the pass count.
+// Its contract is the law of runs. Where the memory for the answers is too short, nothing is done.
 pub fn run_over<R: Reading, F: Finder>(
     cells: &mut [R],
     requests: &[Request<F>],
     work: &mut [R],
     answers: &mut [Answer<R>],
-) -> (usize, u32)
-    ensures law { λ r. ⌜ RanOver weight size «MAIN_UNIT» «SECOND_UNIT» (F·Finder .span) (F·Finder .rows) (F·Finder .need) (length (now (work .entry))) (now (requests .entry)) (r .0) (r .1) (now (cells .entry)) (now (cells .exit)) (now (answers .exit)) ⌝ }
-    ensures done { λ r. ⌜ r .0 ≡ min (length (now (requests .entry))) (length (now (answers .entry))) ⌝ }
-    ensures spared { λ r. ⌜ Spared (F·Finder .need) (now (requests .entry)) (r .0) (now (answers .exit)) (now (work .entry)) (now (work .exit)) ⌝ }
-    ensures rest { λ r. ⌜ drop (r .0) (now (answers .exit)) ≡ drop (r .0) (now (answers .entry)) ⌝ }
+) -> Result<u32, Refusal>
+    ensures law { λ r. ⌜ Cases r
+        (λ count. RanOver weight size «MAIN_UNIT» «SECOND_UNIT» (F·Finder .span) (F·Finder .rows) (F·Finder .need) (now (requests .entry)) count (now (cells .entry)) (now (cells .exit)) (now (work .entry)) (now (work .exit)) (now (answers .entry)) (now (answers .exit)))
+        (λ e. (e ≡ OutputShort) × (length (now (answers .entry)) < length (now (requests .entry)))) ⌝ }
+    ensures refused { λ r. ⌜ Cases r (λ _. length (now (requests .entry)) ≤ length (now (answers .entry))) (λ _. (now (cells .exit) ≡ now (cells .entry)) × (now (work .exit) ≡ now (work .entry)) × (now (answers .exit) ≡ now (answers .entry))) ⌝ }
 {
-    run_laid_out(cells, requests, work, answers)
+    if answers.len() < requests.len() {
+        return Err(Refusal::OutputShort);
+    }
+    Ok(run_laid_out(cells, requests, work, answers))
 }

@@ -1,5 +1,5 @@
 use mathlib.Core.Path.{_≡_, refl, sym, ap, subst, _∙_}
-use Prim.Native.Nat.{_<_, _+_, min}
+use Prim.Native.Nat.{_<_, _+_}
 use native.Mathlib.Omega.{arith}
 use lib.ListN.{length, drop}
 use Rattle.std.proofs.shelf.Lists.{drop-set-lt}
@@ -25,10 +25,9 @@ loop-i-again g c =
 pub returns : need.returns
 returns g c =
     let v = c .loop-i .inv in
-    let e : c .loop-i .i ≡ c .min-n .result = omega arith in
+    let e : c .loop-i .i ≡ length (c .args .requests .now) = omega arith in
     let m = g .R·Reading in let f = g .F·Finder in
     record {
-      done = omega arith;
       law = λ h st. subst (λ n. Ran (m .weight) (m .size) (m .«MAIN_UNIT») (m .«SECOND_UNIT») (f .span) (f .rows) (f .need) (length (c .args .work .now)) h (c .args .requests .now) n (c .args .self .now) (c .loop-i .self) (c .loop-i .answers)) e (v .0 h st);
       kept = v .1;
       spared = subst (λ n. Spared (f .need) (c .args .requests .now) n (c .loop-i .answers) (c .args .work .now) (c .loop-i .work)) e (v .2);
