@@ -1,0 +1,4 @@
+pub mod Cells
+pub mod Book
+pub mod Stands
+pub mod Runs
