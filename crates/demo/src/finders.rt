@@ -149,10 +149,10 @@ fn golay(rt: &LibcRuntime, work: &mut [Level]) -> Result<(), AnyError> {
         Ok(card) => card,
         Err(refusal) => return Ok(show_refusal(rt, "The code", refusal)?),
     };
-    if let Ok(word) = card.encode(2026) {
+    if let Ok(word) = card.encode(3026) {
         println!(
             rt,
-            "Message 2026 is recorded. Places 2, 9 and 17 read the wrong way, places 5 and 20 dropped out:"
+            "Message 3026 is recorded. Places 2, 9 and 17 read the wrong way, places 5 and 20 dropped out:"
         )?;
         let mut readings = worn(word);
         show_list(rt, &readings)?;
