@@ -119,19 +119,15 @@ mod tests {
         check(most[1].value == limit)
     }
 
-    // The label of a level given by its bits, or 2000 where it has none.
-    fn label_of(bits: u32) -> i32 {
-        label(f32::from_bits(bits)).unwrap_or(2000)
-    }
-
     #[test]
     fn labels_of_levels() -> Result<(), Fail> {
+        let zero = 0.0f32;
         check(label(0.5) == Some(512) && label(-0.5) == Some(-512))?;
-        check(label_of(0x3a800000) == 1 && label_of(0x3a000000) == 0)?;
-        check(label_of(0x80000000) == 0 && label_of(0x3f800000) == 1024)?;
-        check(label_of(0xbf800000) == -1024 && label_of(0x3f7fffff) == 1023)?;
-        check(label_of(0x3f800001) == 2000 && label_of(0x7fc00000) == 2000)?;
-        check(label_of(0x7f800000) == 2000 && label_of(0xff800000) == 2000)
+        check(label(0.0009765625) == Some(1) && label(0.00048828125) == Some(0))?;
+        check(label(-zero) == Some(0) && label(1.0) == Some(1024))?;
+        check(label(-1.0) == Some(-1024) && label(0.99999994) == Some(1023))?;
+        check(label(1.0000001) == None && label(zero / zero) == None)?;
+        check(label(1.0 / zero) == None && label(-1.0 / zero) == None)
     }
 
     #[test]
