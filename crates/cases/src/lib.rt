@@ -6,6 +6,13 @@ pub fn worked_cases() -> u8
     ensures proved { λ _. ⌜ Worked ⌝ }
     ensures count { λ r. ⌜ r ≡ 16 ⌝ }
 {
+    all_cases()
+}
+
+fn all_cases() -> u8
+    ensures proved { λ _. ⌜ Worked ⌝ }
+    ensures count { λ r. ⌜ r ≡ 16 ⌝ }
+{
     16
 }
 

@@ -4,7 +4,7 @@ use lib.Count.{ones, onesIn}
 use lib.Dec.{lit<}
 use lib.Ieee.{ofBits}
 use Rattle.cases.proofs.Tested.{top-tested}
-use Rattle.cases.proofs.worked_cases.Needs as need
+use Rattle.cases.proofs.all_cases.Needs as need
 
 pub returns : need.returns
 unfolding ones onesIn ofBits
