@@ -10,17 +10,23 @@ fn proved(list: &mut [i32]) -> u8 {
     unsafe { yalknobi_transform(list.as_mut_ptr(), list.len()) }
 }
 
-fn total(list: &[i32]) -> u64 {
-    list.iter().map(|x| x.unsigned_abs() as u64).sum()
+// The number of the refusal of a list, or 0.
+fn refusal(list: &[i32]) -> u8 {
+    let total: u64 = list.iter().map(|x| x.unsigned_abs() as u64).sum();
+    if !list.len().is_power_of_two() || list.len() > 65536 {
+        18
+    } else if total > 1 << 28 {
+        19
+    } else {
+        0
+    }
 }
 
 #[inline(never)]
 fn checked(list: &mut [i32]) -> u8 {
-    if !list.len().is_power_of_two() || list.len() > 65536 {
-        return 18;
-    }
-    if total(list) > 1 << 28 {
-        return 19;
+    let refused = refusal(list);
+    if refused != 0 {
+        return refused;
     }
     let mut half = list.len() / 2;
     while half > 0 {
@@ -38,11 +44,9 @@ fn checked(list: &mut [i32]) -> u8 {
 
 #[inline(never)]
 fn unchecked(list: &mut [i32]) -> u8 {
-    if !list.len().is_power_of_two() || list.len() > 65536 {
-        return 18;
-    }
-    if total(list) > 1 << 28 {
-        return 19;
+    let refused = refusal(list);
+    if refused != 0 {
+        return refused;
     }
     let mut half = list.len() / 2;
     while half > 0 {
