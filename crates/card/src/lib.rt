@@ -1,3 +1,5 @@
+#![tactic(auto)]
+
 mod concurrence;
 mod dependence;
 pub mod states;

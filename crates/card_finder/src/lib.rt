@@ -1,3 +1,5 @@
+#![tactic(auto)]
+
 ghost use Rattle.std.specs.Prelude.{◌≡◌, ◌++◌, length};
 ghost use Rattle.card.specs.Cards.{rows_of};
 ghost use Rattle.card.specs.Tables.{card_of};

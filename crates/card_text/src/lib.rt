@@ -1,3 +1,5 @@
+#![tactic(auto)]
+
 pub mod convert;
 mod draft;
 pub mod fault;

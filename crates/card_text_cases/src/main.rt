@@ -1,3 +1,5 @@
+#![tactic(auto)]
+
 // Texts and files of cards: what becomes of each, and what is said of those that are refused.
 mod failure;
 mod files;

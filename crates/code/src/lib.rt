@@ -1,3 +1,5 @@
+#![tactic(auto)]
+
 pub mod length;
 pub mod limits;
 pub mod refusal;

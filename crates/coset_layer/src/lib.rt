@@ -1,3 +1,5 @@
+#![tactic(auto)]
+
 mod own;
 
 ghost use Rattle.std.specs.Prelude.{◌≡◌, ℕ, ◌+◌, ◌-◌, ◌*◌, ◌%◌, ◌^◌, ◌<◌, ◌≤◌, true, List, [], ◌∷◌, ◌++◌, map, length, take, drop, Some, MatchOption, MatchResult, OnOk, nat_lt, slice_index};

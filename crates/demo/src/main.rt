@@ -1,3 +1,5 @@
+#![tactic(auto)]
+
 mod cards;
 mod finders;
 mod sheets;

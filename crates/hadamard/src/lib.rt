@@ -1,3 +1,5 @@
+#![tactic(auto)]
+
 ghost use Rattle.std.specs.Prelude.{◌≡◌, ℕ, ◌+◌, ◌*◌, ◌^◌, ◌<◌, ◌≤◌, length, ◌+ℤ◌, neg_ℤ, Ok, Err, sum_by, MatchOption, MatchResult, ◌≢◌};
 ghost use Rattle.code.specs.Limits.{sum_limit};
 ghost use Rattle.hadamard.specs.Transform.{Transformed, verdict, max_exponent};

@@ -1,3 +1,5 @@
+#![tactic(auto)]
+
 // Makes a card's file of its text, or shows a card's file as text.
 mod failure;
 

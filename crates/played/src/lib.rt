@@ -1,3 +1,5 @@
+#![tactic(auto)]
+
 ghost use Rattle.std.specs.Prelude.{◌≡◌, ℕ, ◌<◌, ◌≤◌, length, MatchResult, slice_index_or};
 ghost use Rattle.code.specs.Limits.{max_places};
 ghost use Rattle.code.specs.Words.{digit};

@@ -1,3 +1,5 @@
+#![tactic(auto)]
+
 pub mod level;
 pub mod two_head;
 

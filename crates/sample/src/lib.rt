@@ -1,3 +1,5 @@
+#![tactic(auto)]
+
 pub mod level;
 
 ghost use Rattle.std.specs.Prelude.{◌≡◌, ℕ, ◌≤◌, List, IfOk, MatchResult, unsigned_abs};

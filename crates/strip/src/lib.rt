@@ -1,3 +1,5 @@
+#![tactic(auto)]
+
 // A card, its finders and a sheet used together.
 mod finders;
 
