@@ -1,5 +1,5 @@
 -- What a table keeps makes its card lawful.
-use Rattle.std.proofs.Common.{◌≡◌, ℕ, ◌+◌, ◌<◌, ◌≤◌, List, length, take, drop, set, sym, ap, subst, arith, length-set}
+use Rattle.std.proofs.Common.{◌≡◌, ℕ, ◌+◌, ◌≤◌, List, length, take, drop, set, sym, subst, arith}
 use Rattle.std.proofs.lemmas.List.{length-take-le}
 use Rattle.code.specs.declared.refusal.Section.{Section}
 use Rattle.code.specs.declared.refusal.Section.TheVariants.{Group, Transform, Coset}
@@ -7,8 +7,8 @@ use Rattle.code.specs.Limits.{Length}
 use Rattle.code.specs.Spans.{Independent}
 use Rattle.card.specs.declared.table.Table.{Table}
 use Rattle.card.specs.Rows.{Within, Concur}
-use Rattle.card.specs.Cards.{Card, Lawful, section_of, max_section_rows, card_rows, rows_of}
-use Rattle.card.specs.Tables.{card_of, counted}
+use Rattle.card.specs.Cards.{Lawful, section_of, max_section_rows, card_rows}
+use Rattle.card.specs.Tables.{card_of}
 use Rattle.card.proofs.Tables.{rows_joined, part_length}
 use Rattle.card.proofs.Pushes.{Passed, count_is, more_within, more-independent, same-concur, more_concur}
 

@@ -1,8 +1,8 @@
 -- Numbers by their digits, and the test of concurrence.
-use Rattle.std.proofs.Common.{◌≡◌, ℕ, zero, suc, ◌+◌, ◌-◌, ◌*◌, ◌/◌, ◌%◌, ◌^◌, ◌<◌, ◌≤◌, min, max, ◌⊎◌, List, [], ◌∷◌, ◌++◌, length, get_or, take, sym, refl, ap, ◌∙◌, subst, ap₂, subst₂, inl, inr, add_assoc, mod-lt, add_comm, arith, length-append}
+use Rattle.std.proofs.Common.{◌≡◌, ℕ, zero, suc, ◌+◌, ◌/◌, ◌%◌, ◌^◌, ◌<◌, ◌≤◌, min, max, List, [], ◌∷◌, ◌++◌, length, sym, refl, ap, ◌∙◌, inl, inr, add_assoc, mod-lt, arith}
 use native.Mathlib.Nat.{zero-div}
 use lib.Bits.{bit_xor, bit_and, bit_or, xor_self, and_shr, and_mod, or_shr, or_mod}
-use Rattle.std.proofs.lemmas.List.{take_more, length_push}
+use Rattle.std.proofs.lemmas.List.{length_push}
 use Rattle.std.proofs.lemmas.Bool.{cases_lt}
 use Rattle.code.specs.Words.{digit}
 use Rattle.card.specs.Rows.{tally, Concur}

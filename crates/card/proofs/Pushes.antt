@@ -1,7 +1,7 @@
 -- A row that passed the checks keeps what a table keeps.
-use Rattle.std.proofs.Common.{◌≡◌, ℕ, zero, suc, ◌+◌, ◌-◌, ◌^◌, ◌<◌, ◌≤◌, Bool, true, false, cond, leb, ◌⊎◌, List, [], ◌∷◌, ◌++◌, length, get_or, take, drop, set, Ok, Err, Result, sym, refl, ap, ◌∙◌, subst, ap₂, inl, inr, arith}
+use Rattle.std.proofs.Common.{◌≡◌, ℕ, zero, suc, ◌+◌, ◌^◌, ◌<◌, ◌≤◌, Bool, true, false, cond, leb, List, [], ◌∷◌, ◌++◌, length, take, drop, set, Ok, Err, Result, sym, refl, ap, ◌∙◌, subst, arith}
 use Rattle.std.proofs.lemmas.List.{take_more_set, take-set-le, length-take-le, length-drop, drop-set-add}
-use Rattle.std.proofs.lemmas.Bool.{cases_Bool, both_ways, leb-false}
+use Rattle.std.proofs.lemmas.Bool.{both_ways, leb-false}
 use Rattle.code.specs.declared.refusal.Section.{Section}
 use Rattle.code.specs.declared.refusal.Section.TheVariants.{Group, Transform, Coset}
 use Rattle.code.specs.declared.refusal.Refusal.{Refusal}
@@ -9,7 +9,7 @@ use Rattle.code.specs.declared.refusal.Refusal.TheVariants.{DigitBeyondLength, S
 use Rattle.card.specs.declared.table.Table.{Table}
 use Rattle.code.specs.Spans.{Independent}
 use Rattle.card.specs.Rows.{dependent, Within, Concur}
-use Rattle.card.specs.Cards.{Card, Lawful, rows_of, section_of, keeps, verdict, pushed}
+use Rattle.card.specs.Cards.{Card, rows_of, section_of, keeps, verdict, pushed}
 use Rattle.card.specs.Tables.{card_of, counted}
 use Rattle.code.proofs.Spans.{independent_push}
 use Rattle.card.proofs.Decided.{dependent_from_span, concur_from_concordant}

@@ -1,12 +1,11 @@
 -- A table's rows, section by section.
-use Rattle.std.proofs.Common.{◌≡◌, ℕ, zero, suc, ◌+◌, ◌-◌, ◌*◌, ◌/◌, ◌%◌, ◌^◌, ◌<◌, ◌≤◌, Bool, true, false, cond, not, eqb, leb, List, [], ◌∷◌, ◌++◌, length, get_or, take, drop, Ok, Err, sym, refl, ap, ◌∙◌, subst, ap₂, inl, inr, append_assoc, arith, length-append, take-add}
+use Rattle.std.proofs.Common.{◌≡◌, ℕ, ◌+◌, ◌/◌, ◌^◌, ◌<◌, ◌≤◌, true, false, not, eqb, leb, List, [], ◌∷◌, ◌++◌, length, take, drop, Ok, Err, sym, ap, ◌∙◌, subst, inl, inr, append_assoc, arith, length-append, take-add}
 use native.Mathlib.Nat.{div-eq_of_lt}
 use Rattle.std.proofs.lemmas.Nat.{le-div, pow_pos}
-use Rattle.std.proofs.lemmas.List.{length-take, length-drop, length-take-le, take_more_set, take-set-le, drop-set-add, get_or_append_left, get_or-append-add, get_or_push, get_or-take, length_push}
+use Rattle.std.proofs.lemmas.List.{length-drop, length-take-le, get_or_append_left, get_or-append-add, get_or_push, get_or-take, length_push}
 use Rattle.std.proofs.lemmas.Bool.{le-leb, lt-leb, cases_lt, eq-eqb, ne_eqb}
 use Rattle.code.specs.declared.refusal.Section.{Section}
-use Rattle.code.specs.declared.refusal.Refusal.{Refusal}
-use Rattle.code.specs.declared.refusal.Refusal.TheVariants.{DigitBeyondLength, SectionFull, DependentRow, ConcurrenceBroken}
+use Rattle.code.specs.declared.refusal.Refusal.TheVariants.{DependentRow, ConcurrenceBroken}
 use Rattle.card.specs.Rows.{dependent, Within}
 use Rattle.card.specs.Cards.{Card, rows_of, section_of, keeps, verdict}
 

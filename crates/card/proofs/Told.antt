@@ -1,10 +1,10 @@
 -- The verdict on a row says what a reader would say.
-use Rattle.std.proofs.Common.{◌≡◌, ℕ, ◌^◌, ◌<◌, ◌≤◌, Bool, true, false, cond, List, [], ◌∷◌, ◌++◌, length, sym, refl, ap, ◌∙◌, inl, inr, arith}
+use Rattle.std.proofs.Common.{◌≡◌, ℕ, ◌^◌, ◌<◌, true, false, List, [], ◌∷◌, ◌++◌, length, sym, refl, inl, inr}
 use Rattle.std.proofs.lemmas.Bool.{le-leb, lt-leb, cases_Bool}
 use Rattle.code.specs.declared.refusal.Section.{Section}
 use Rattle.code.specs.declared.refusal.Section.TheVariants.{Group, Transform, Coset}
 use Rattle.code.specs.Spans.{Span}
-use Rattle.card.specs.Rows.{Concur, Within, dependent, concordant}
+use Rattle.card.specs.Rows.{Within, dependent, concordant}
 use Rattle.card.specs.Cards.{Card, Lawful, Keeps, Told, keeps, rows_of, section_of, verdict}
 use Rattle.card.proofs.Decided.{dependent_from_span, span_from_dependent, concordant_from, concur_from_concordant}
 use Rattle.card.proofs.Tables.{verdict-dependent, verdict-concurrence, verdict-ok, within_push, within_left}

@@ -32,8 +32,8 @@ impl Reading for Level {
     ghost negation = { Prim.search rules };
 
     fn units() -> (u64, u64)
-        ensures* main { do ⌜ result.0 ≡ 1 ⌝ ∗ ⌜ result.0 ≡ (← (⟦Level::MAIN_UNIT⟧).entry) ⌝ }
-        ensures* second { do ⌜ result.1 ≡ 0 ⌝ ∗ ⌜ result.1 ≡ (← (⟦Level::SECOND_UNIT⟧).entry) ⌝ }
+        ensures main { (result.0 ≡ 1) × (result.0 ≡ ⟦<Level as Reading>⟧.MAIN_UNIT) }
+        ensures second { (result.1 ≡ 0) × (result.1 ≡ ⟦<Level as Reading>⟧.SECOND_UNIT) }
     {
         (Self::MAIN_UNIT, Self::SECOND_UNIT)
     }

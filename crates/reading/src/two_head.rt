@@ -47,8 +47,8 @@ impl Reading for TwoHead {
     ghost negation = { Prim.search rules };
 
     fn units() -> (u64, u64)
-        ensures* main { do ⌜ result.0 ≡ 2 ^ 32 ⌝ ∗ ⌜ result.0 ≡ (← (⟦TwoHead::MAIN_UNIT⟧).entry) ⌝ }
-        ensures* second { do ⌜ result.1 ≡ 1 ⌝ ∗ ⌜ result.1 ≡ (← (⟦TwoHead::SECOND_UNIT⟧).entry) ⌝ }
+        ensures main { (result.0 ≡ 2 ^ 32) × (result.0 ≡ ⟦<TwoHead as Reading>⟧.MAIN_UNIT) }
+        ensures second { (result.1 ≡ 1) × (result.1 ≡ ⟦<TwoHead as Reading>⟧.SECOND_UNIT) }
     {
         (Self::MAIN_UNIT, Self::SECOND_UNIT)
     }

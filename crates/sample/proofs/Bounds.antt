@@ -1,5 +1,5 @@
 -- The labels of a good sample are at most full level.
-use Rattle.std.proofs.Common.{ℕ, ◌≤◌, Bool, true, false, cond, eqb, ℤ, pos, neg_ℤ, nat_abs, arith}
+use Rattle.std.proofs.Common.{◌≤◌, Bool, true, false, cond, eqb, pos, neg_ℤ, nat_abs, arith}
 use Rattle.code.specs.Limits.{full_label}
 use Rattle.sample.specs.declared.Sample.{Sample}
 use Rattle.sample.specs.declared.Sample.TheVariants.{Bit, Level, Pair, Dropout}

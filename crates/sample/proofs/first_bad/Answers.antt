@@ -1,6 +1,5 @@
-use Rattle.std.proofs.Common.{◌≡◌, ℕ, ◌<◌, get_or, sym, refl, ap, ◌∙◌, subst, arith, below_more}
+use Rattle.std.proofs.Common.{get_or, sym, ap, ◌∙◌, subst, arith, below_more}
 use Rattle.std.proofs.lemmas.List.{at_drop_all, get_or_default}
-use Rattle.sample.specs.declared.Sample.{Sample}
 use Rattle.sample.specs.Samples.{answer, first_fault, Good, Bad}
 use Rattle.sample.proofs.Faults.{first_none, first_some, answer_err, answer_ok}
 use Rattle.sample.proofs.first_bad.Goals as goal

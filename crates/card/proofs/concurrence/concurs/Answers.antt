@@ -1,4 +1,4 @@
-use Rattle.std.proofs.Common.{◌≡◌, ℕ, List, ◌∷◌, get_or, take, sym, ap, subst}
+use Rattle.std.proofs.Common.{ℕ, List, ◌∷◌, get_or, take, sym, subst}
 use lib.Bits.{bit_and, bit_or}
 use Rattle.std.proofs.lemmas.List.{take_all, take_more}
 use Rattle.std.proofs.lemmas.Bool.{eqb-true, eq-eqb}

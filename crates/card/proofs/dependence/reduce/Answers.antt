@@ -1,4 +1,4 @@
-use Rattle.std.proofs.Common.{ℕ, List, sym, subst}
+use Rattle.std.proofs.Common.{ℕ, List, subst}
 use Rattle.std.proofs.lemmas.List.{take_all}
 use Rattle.card.specs.Echelon.{Reduced}
 use Rattle.card.proofs.Echelons.{reduced_none, reduced_more}

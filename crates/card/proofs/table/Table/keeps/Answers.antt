@@ -1,7 +1,7 @@
-use Rattle.std.proofs.Common.{◌≡◌, ℕ, true, List, [], ◌∷◌, ◌++◌, sym, ap, ◌∙◌, subst}
+use Rattle.std.proofs.Common.{ℕ, List, [], ◌∷◌, ◌++◌, sym, ap, ◌∙◌, subst}
 use Rattle.code.specs.declared.refusal.Section.{Section}
 use Rattle.card.specs.Rows.{Concur, Within, concordant}
-use Rattle.card.specs.Cards.{keeps, rows_of}
+use Rattle.card.specs.Cards.{keeps}
 use Rattle.card.specs.Tables.{card_of}
 use Rattle.card.proofs.Decided.{bool_same, concordant_from, concur_from_concordant}
 use Rattle.card.proofs.Tables.{within_push, within_left}
@@ -14,8 +14,8 @@ returns-in-Group c =
     let k = card_of t in
     let n = k.len in
     let g = k.group in
-    let v = c.section-rows.ensures.value in
-    let w : Within n (g ++ row ∷ []) = within_push n g row (within_left n g (k.transform ++ k.coset) c.section-rows.ensures.lawful.within) c.requires in
+    let v = c.section_rows.ensures.value in
+    let w : Within n (g ++ row ∷ []) = within_push n g row (within_left n g (k.transform ++ k.coset) c.section_rows.ensures.lawful.within) c.requires in
     let b = c.concurs.result in
     bool_same b (concordant n (g ++ row ∷ []))
     (λ h. concordant_from n (g ++ row ∷ []) (subst (λ (l : List ℕ). Concur (l ++ row ∷ [])) v (c.concurs.ensures.only h)))

@@ -1,7 +1,6 @@
-use Rattle.std.proofs.Common.{◌≡◌, ℕ, ◌+◌, ◌<◌, length, set, sym, refl, ap, ◌∙◌, subst, arith, length-set, rules}
+use Rattle.std.proofs.Common.{◌≡◌, ◌+◌, length, sym, refl, ap, ◌∙◌, subst, arith, length-set, rules}
 use Rattle.std.proofs.lemmas.Result.{err_from_is_err_and}
 use Rattle.code.specs.declared.refusal.Section.{Section}
-use Rattle.code.specs.declared.refusal.Section.TheVariants.{Group, Transform, Coset}
 use Rattle.card.specs.Cards.{pushed, Told}
 use Rattle.card.specs.Tables.{card_of, Filling}
 use Rattle.card.proofs.Pushes.{Passed, passed, at-below, pushed_group, pushed_transform, pushed_coset}
@@ -9,13 +8,13 @@ use Rattle.card.proofs.Lawful.{lawful_table, lawful_kept, kept-group, kept-trans
 use Rattle.card.proofs.Told.{told-verdict}
 use Rattle.card.proofs.table.Table.push.Goals as goal
 
-pub returns-in-err-check : goal.returns-in-err-check
-returns-in-err-check c =
+pub returns-in_err-check : goal.returns-in_err-check
+returns-in_err-check c =
     let t = c.args.self.now in
-    let p = err_from_is_err_and c.from-residual.result c.from-residual.ensures.1 in
+    let p = err_from_is_err_and c.from_residual.result c.from_residual.ensures.1 in
     rw (p.1, p.2) (record {
-      answer = c.in-err-check.ensures;
-      told = subst (Told (card_of t) c.args.section c.args.row) (sym c.in-err-check.ensures) (told-verdict (card_of t) c.args.section c.args.row (lawful_table t (search rules)));
+      answer = c.in_err-check.ensures;
+      told = subst (Told (card_of t) c.args.section c.args.row) (sym c.in_err-check.ensures) (told-verdict (card_of t) c.args.section c.args.row (lawful_table t (search rules)));
       card = refl;
       refused = refl;
       filling = c.requires;
@@ -26,46 +25,46 @@ pub bounds-self-at : goal.bounds-self-at
 bounds-self-at c =
     let t = c.args.self.now in
     let n : length t.rows ≡ 24 = search rules in
-    at-below t c.args.section c.args.row n (passed c.in-ok-check.field-0 (card_of t) c.args.section c.args.row c.in-ok-check.ensures)
+    at-below t c.args.section c.args.row n (passed c.in_ok-check.field-0 (card_of t) c.args.section c.args.row c.in_ok-check.ensures)
 
-pub invariant-of-self : goal.invariant-of-self
-invariant-of-self c =
+pub invariant_of-self : goal.invariant_of-self
+invariant_of-self c =
     let t = c.args.self.now in
     let row = c.args.row in
     let n : length t.rows ≡ 24 = search rules in
-    let p = subst (λ (s : Section). Passed (card_of t) s row) c.in-Group.is (passed c.in-ok-check.field-0 (card_of t) c.args.section row c.in-ok-check.ensures) in
+    let p = subst (λ (s : Section). Passed (card_of t) s row) c.in-Group.is (passed c.in_ok-check.field-0 (card_of t) c.args.section row c.in_ok-check.ensures) in
     let (zt, zc) = subst (Filling t.transform t.coset) c.in-Group.is c.requires in
     let k = kept-group t row n p zt zc in
-    (k.few, (k.within, (k.independent, (k.concur, tt))))
+    record { few = k.few; within = k.within; independent = k.independent; concur = k.concur }
 
-pub invariant-of-self-in-Transform : goal.invariant-of-self-in-Transform
-invariant-of-self-in-Transform c =
+pub invariant_of-self-in-Transform : goal.invariant_of-self-in-Transform
+invariant_of-self-in-Transform c =
     let t = c.args.self.now in
     let row = c.args.row in
     let n : length t.rows ≡ 24 = search rules in
-    let p = subst (λ (s : Section). Passed (card_of t) s row) c.in-Transform.is (passed c.in-ok-check.field-0 (card_of t) c.args.section row c.in-ok-check.ensures) in
+    let p = subst (λ (s : Section). Passed (card_of t) s row) c.in-Transform.is (passed c.in_ok-check.field-0 (card_of t) c.args.section row c.in_ok-check.ensures) in
     let k = kept-transform t row n p in
-    (k.few, (k.within, (k.independent, (k.concur, tt))))
+    record { few = k.few; within = k.within; independent = k.independent; concur = k.concur }
 
-pub invariant-of-self-in-Coset : goal.invariant-of-self-in-Coset
-invariant-of-self-in-Coset c =
+pub invariant_of-self-in-Coset : goal.invariant_of-self-in-Coset
+invariant_of-self-in-Coset c =
     let t = c.args.self.now in
     let row = c.args.row in
     let n : length t.rows ≡ 24 = search rules in
-    let p = subst (λ (s : Section). Passed (card_of t) s row) c.in-Coset.is (passed c.in-ok-check.field-0 (card_of t) c.args.section row c.in-ok-check.ensures) in
+    let p = subst (λ (s : Section). Passed (card_of t) s row) c.in-Coset.is (passed c.in_ok-check.field-0 (card_of t) c.args.section row c.in_ok-check.ensures) in
     let k = kept-coset t row n p in
-    (k.few, (k.within, (k.independent, (k.concur, tt))))
+    record { few = k.few; within = k.within; independent = k.independent; concur = k.concur }
 
 pub returns-in-Group : goal.returns-in-Group
 returns-in-Group c =
     let t = c.args.self.now in
     let row = c.args.row in
     let n : length t.rows ≡ 24 = search rules in
-    let p = subst (λ (s : Section). Passed (card_of t) s row) c.in-Group.is (passed c.in-ok-check.field-0 (card_of t) c.args.section row c.in-ok-check.ensures) in
+    let p = subst (λ (s : Section). Passed (card_of t) s row) c.in-Group.is (passed c.in_ok-check.field-0 (card_of t) c.args.section row c.in_ok-check.ensures) in
     let (zt, zc) = subst (Filling t.transform t.coset) c.in-Group.is c.requires in
     record {
-      answer = c.in-ok-check.ensures;
-      told = subst (Told (card_of t) c.args.section row) (sym c.in-ok-check.ensures) (told-verdict (card_of t) c.args.section row (lawful_table t n));
+      answer = c.in_ok-check.ensures;
+      told = subst (Told (card_of t) c.args.section row) (sym c.in_ok-check.ensures) (told-verdict (card_of t) c.args.section row (lawful_table t n));
       card = pushed_group t.len.places t.group t.transform t.coset row t.rows zt zc (omega arith) ∙ ap (λ (s : Section). pushed (card_of t) s row) (sym c.in-Group.is);
       refused = tt;
       filling = c.requires;
@@ -77,11 +76,11 @@ returns-in-Transform c =
     let t = c.args.self.now in
     let row = c.args.row in
     let n : length t.rows ≡ 24 = search rules in
-    let p = subst (λ (s : Section). Passed (card_of t) s row) c.in-Transform.is (passed c.in-ok-check.field-0 (card_of t) c.args.section row c.in-ok-check.ensures) in
+    let p = subst (λ (s : Section). Passed (card_of t) s row) c.in-Transform.is (passed c.in_ok-check.field-0 (card_of t) c.args.section row c.in_ok-check.ensures) in
     let zc = subst (Filling t.transform t.coset) c.in-Transform.is c.requires in
     record {
-      answer = c.in-ok-check.ensures;
-      told = subst (Told (card_of t) c.args.section row) (sym c.in-ok-check.ensures) (told-verdict (card_of t) c.args.section row (lawful_table t n));
+      answer = c.in_ok-check.ensures;
+      told = subst (Told (card_of t) c.args.section row) (sym c.in_ok-check.ensures) (told-verdict (card_of t) c.args.section row (lawful_table t n));
       card = pushed_transform t.len.places t.group t.transform t.coset row t.rows zc (omega arith) ∙ ap (λ (s : Section). pushed (card_of t) s row) (sym c.in-Transform.is);
       refused = tt;
       filling = subst (Filling (t.transform + 1) t.coset) (sym c.in-Transform.is) zc;
@@ -93,12 +92,12 @@ returns-in-Coset c =
     let t = c.args.self.now in
     let row = c.args.row in
     let n : length t.rows ≡ 24 = search rules in
-    let q = passed c.in-ok-check.field-0 (card_of t) c.args.section row c.in-ok-check.ensures in
+    let q = passed c.in_ok-check.field-0 (card_of t) c.args.section row c.in_ok-check.ensures in
     let p = subst (λ (s : Section). Passed (card_of t) s row) c.in-Coset.is q in
     let lt = at-below t c.args.section row n q in
     record {
-      answer = c.in-ok-check.ensures;
-      told = subst (Told (card_of t) c.args.section row) (sym c.in-ok-check.ensures) (told-verdict (card_of t) c.args.section row (lawful_table t n));
+      answer = c.in_ok-check.ensures;
+      told = subst (Told (card_of t) c.args.section row) (sym c.in_ok-check.ensures) (told-verdict (card_of t) c.args.section row (lawful_table t n));
       card = pushed_coset t.len.places t.group t.transform t.coset row t.rows (omega (arith, lt)) ∙ ap (λ (s : Section). pushed (card_of t) s row) (sym c.in-Coset.is);
       refused = tt;
       filling = subst (Filling t.transform (t.coset + 1)) (sym c.in-Coset.is) tt;
