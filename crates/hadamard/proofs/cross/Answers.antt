@@ -32,4 +32,4 @@ loop-k-preserved g c =
     cross-step weight size h k old cur (omega arith) c.loop-k-test.true c.loop-k.invariant c.butterfly-sum.result.0 c.butterfly-sum.result.1
     (s.sum ∙ ap₂ (λ u v. u +ℤ v) x y)
     (s.difference ∙ ap₂ (λ u v. u +ℤ neg_ℤ v) x y)
-    (omega (arith, s.sum-size)) (omega (arith, s.difference-size))
+    (omega (arith, s.sum_size)) (omega (arith, s.difference_size))

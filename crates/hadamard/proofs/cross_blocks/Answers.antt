@@ -6,28 +6,29 @@ use Rattle.hadamard.specs.Stages.{Crossed, Staged}
 use Rattle.hadamard.proofs.Blocks.{fits, block_long, stage_step}
 use Rattle.hadamard.proofs.cross_blocks.Given as given
 use Rattle.hadamard.proofs.cross_blocks.Goals as goal
+use Rattle.hadamard.proofs.cross_blocks.Goals.{In-loop-b}
 
 -- the block ends within the list
-within : (g : given.Over) (c : goal.In-loop-b g) → c.loop-b.b * (c.args.half + c.args.half) + (c.args.half + c.args.half) ≤ length c.args.list.now
+within : (g : given.Over) (c : In-loop-b g) → c.loop-b.b * (c.args.half + c.args.half) + (c.args.half + c.args.half) ≤ length c.args.list.now
 within g c = fits (c.args.half + c.args.half) c.args.blocks c.loop-b.b (length c.args.list.now) c.loop-b-test.true c.requires.long
 
-pub overflow-add-size : goal.overflow-add-size
-overflow-add-size g c = omega (arith, within g c)
+pub overflow_add-size : goal.overflow_add-size
+overflow_add-size g c = omega (arith, within g c)
 
-pub overflow-mul-base : goal.overflow-mul-base
-overflow-mul-base g c = omega (arith, within g c)
+pub overflow_mul-base : goal.overflow_mul-base
+overflow_mul-base g c = omega (arith, within g c)
 
-pub overflow-add-base : goal.overflow-add-base
-overflow-add-base g c = omega (arith, within g c)
+pub overflow_add-base : goal.overflow_add-base
+overflow_add-base g c = omega (arith, within g c)
 
-pub offset-bounds-list-base : goal.offset-bounds-list-base
-offset-bounds-list-base g c =
+pub offset_bounds-list-base : goal.offset_bounds-list-base
+offset_bounds-list-base g c =
     let w = within g c in
     let l : c.loop-b.b * (c.args.half + c.args.half) ≤ length c.args.list.now = omega arith in
     omega (arith, mul-le-mul_right (bytes_of (layout g.row.R)) l)
 
-pub slice-bounds-cross-end : goal.slice-bounds-cross-end
-slice-bounds-cross-end g c = let w = within g c in search rules
+pub slice_bounds-cross-end : goal.slice_bounds-cross-end
+slice_bounds-cross-end g c = let w = within g c in search rules
 
 pub loop-b-preserved : goal.loop-b-preserved
 loop-b-preserved g c =

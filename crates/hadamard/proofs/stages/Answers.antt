@@ -21,8 +21,8 @@ stage-requires g c =
           omega (arith, c.loop.invariant.2.small b l);
     }
 
-pub overflow-mul-blocks : goal.overflow-mul-blocks
-overflow-mul-blocks g c =
+pub overflow_mul-blocks : goal.overflow_mul-blocks
+overflow_mul-blocks g c =
     let half = halved c.loop.half (c.args.t - c.loop.counter) c.loop.invariant.0 (λ e. omega arith) in
     let two : 2 ≤ c.loop.half = omega (arith, pow_pos (c.args.t - c.loop.counter - 1)) in
     omega (arith, mul-le-mul_left c.loop.blocks two, c.loop.invariant.1)
