@@ -12,8 +12,8 @@ returns-then-word-n g c =
     let e = length-map c.args.word.now g.R.Reading.size in
     sym (wrong-length c.args.n c.args.need (map g.R.Reading.size c.args.word.now) c.args.have (λ h. c.if-word-n.true (sym e ∙ h)))
 
-pub returns-then-size-gt-SIZE-LIMIT : goal.returns-then-size-gt-SIZE-LIMIT
-returns-then-size-gt-SIZE-LIMIT g c =
+pub returns-then-size-gt-SIZE_LIMIT : goal.returns-then-size-gt-SIZE_LIMIT
+returns-then-size-gt-SIZE_LIMIT g c =
     let z = g.R.Reading.size in
     let word = c.args.word.now in
     let e = length-map word z in

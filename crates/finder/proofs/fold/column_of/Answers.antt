@@ -9,11 +9,11 @@ loop-j-init c =
     let l = length-take column_rows c.args.rows.now in
     sym (ap (λ (l : List ℕ). column l c.args.i) (drop_all _ (take column_rows c.args.rows.now) (omega arith)))
 
-pub overflow-mul-c : goal.overflow-mul-c
-overflow-mul-c c = let s = column_small c.args.rows.now c.loop-j.j c.args.i c.loop-j.c c.loop-j.invariant in omega arith
+pub overflow_mul-c : goal.overflow_mul-c
+overflow_mul-c c = let s = column_small c.args.rows.now c.loop-j.j c.args.i c.loop-j.c c.loop-j.invariant in omega arith
 
-pub overflow-add-c : goal.overflow-add-c
-overflow-add-c c = let s = column_small c.args.rows.now c.loop-j.j c.args.i c.loop-j.c c.loop-j.invariant in omega arith
+pub overflow_add-c : goal.overflow_add-c
+overflow_add-c c = let s = column_small c.args.rows.now c.loop-j.j c.args.i c.loop-j.c c.loop-j.invariant in omega arith
 
 pub loop-j-preserved : goal.loop-j-preserved
 loop-j-preserved c =

@@ -10,14 +10,14 @@ use Rattle.finder.proofs.Refusals.{taken_facts, all_sizes}
 use Rattle.finder.proofs.fold.fold_checked.Given as given
 use Rattle.finder.proofs.fold.fold_checked.Goals as goal
 
-pub slice-bounds-list-end : goal.slice-bounds-list-end
-slice-bounds-list-end g c =
-    let t = sym c.check.ensures ∙ c.in-default.is in
+pub slice_bounds-list-end : goal.slice_bounds-list-end
+slice_bounds-list-end g c =
+    let t = sym c.check.ensures ∙ c.in_default.is in
     (taken_facts c.args.n c.args.need (map g.R.Reading.size c.args.word.now) (length c.args.work.now) t).2
 
 pub scatter-requires : goal.scatter-requires
 scatter-requires g c =
-    let t = sym c.check.ensures ∙ c.in-default.is in
+    let t = sym c.check.ensures ∙ c.in_default.is in
     let f = taken_facts c.args.n c.args.need (map g.R.Reading.size c.args.word.now) (length c.args.work.now) t in
     let f0 = f.0 in
     let e = length-map c.args.word.now g.R.Reading.size in
@@ -40,7 +40,7 @@ returns g c =
     let k = c.args.need in
     let slots = c.args.slots.now in
     let list = c.scatter.new.list in
-    let t = sym c.check.ensures ∙ c.in-default.is in
+    let t = sym c.check.ensures ∙ c.in_default.is in
     let f = taken_facts n k (map size word) (length work) t in
     let f0 = f.0 in
     let f2 = f.2 in

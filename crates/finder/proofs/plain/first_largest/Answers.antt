@@ -21,7 +21,7 @@ loop-i-preserved g c =
     let read = read_at w c.args.list.now i x (pos 0) c.loop-i-test.true c.index-list-i.is in
     let held = c.loop-i.invariant.1 in
     picked (λ b. Top f (i + 1) b.message × (w b.reading ≡ f b.message))
-    (lt_z (w c.loop-i.best.reading) (w x)) c.loop-i.best _ c.or-heavier-best.result c.or-heavier-best.ensures
+    (lt_z (w c.loop-i.best.reading) (w x)) c.loop-i.best _ c.or_heavier-best.result c.or_heavier-best.ensures
     (λ e. let l = less (w c.loop-i.best.reading) (w x) e in (largest-takes f i m c.loop-i.invariant.0 (omega (arith, ints)), sym read))
     (λ e. let l = not_less (w c.loop-i.best.reading) (w x) e in (largest-keeps f i m c.loop-i.invariant.0 (omega (arith, ints)), held))
 

@@ -13,15 +13,15 @@ use Rattle.finder.specs.PlainRows.{transform_taken, holds-agreements}
 use Rattle.finder.proofs.plain.search_rows.Given as given
 use Rattle.finder.proofs.plain.search_rows.Goals as goal
 
-pub slice-bounds-list-end : goal.slice-bounds-list-end
-slice-bounds-list-end g c =
+pub slice_bounds-list-end : goal.slice_bounds-list-end
+slice_bounds-list-end g c =
     let t = c.in-Ok.ensures.taken in
     let f = (taken_facts c.args.span.places c.args.need (map g.R.Reading.size c.args.word.now) (length c.args.work.now) t).2 in
     let k = c.fold.auto.work in
     omega arith
 
-pub first-largest-requires : goal.first-largest-requires
-first-largest-requires g c =
+pub first_largest-requires : goal.first_largest-requires
+first_largest-requires g c =
     let t = c.in-Ok.ensures.taken in
     let f = (taken_facts c.args.span.places c.args.need (map g.R.Reading.size c.args.word.now) (length c.args.work.now) t).2 in
     let k = c.fold.auto.work in
@@ -59,11 +59,11 @@ returns-in-Ok g c =
     let done : Transformed w z list final = transform_taken c.transform.result (Transformed w z list final) (λ _. final ≡ list) (length list) (sum_by z list) (length rows) c.requires.few room small c.transform.ensures.value c.transform.ensures.list in
     let same = holds-agreements w z rows c.args.slots.now word list final c.requires.few room (λ i l. c.requires.columns i (omega arith))
     (λ x l. at_take w (pos 0) (k - 0) mid x (omega arith) ∙ folded.sums x (omega arith) ∙ ap (λ (j : ℕ). sum_of_slot (λ i. get_or c.args.slots.now i 0) (weight_at w word) j x) lw) done in
-    let m = c.first-largest.result.message in
-    let top = subst (λ (j : ℕ). Top (weight_at w final) j m) (c.transform.auto.list ∙ room) c.first-largest.ensures.top in
+    let m = c.first_largest.result.message in
+    let top = subst (λ (j : ℕ). Top (weight_at w final) j m) (c.transform.auto.list ∙ room) c.first_largest.ensures.top in
     record {
       taken = folded.taken;
       is_best = top-same (weight_at w final) (agrees rows (map w word)) (2 ^ length rows) m same top;
-      weighs = c.first-largest.ensures.weighs ∙ same m top.within;
+      weighs = c.first_largest.ensures.weighs ∙ same m top.within;
       beyond = drop-append-drop (k - 0) mid final k (omega arith) (c.transform.auto.list ∙ length-take-le (k - 0) mid (omega arith)) ∙ folded.beyond;
     }

@@ -7,6 +7,6 @@ returns c =
     let k = c.args.count in
     let p = c.requires.0 in
     let s : k - 0 ≡ k = omega arith in
-    let is = c.copy-from-slice.ensures.after in
+    let is = c.copy_from_slice.ensures.after in
     let l = length-take-le (k - 0) c.args.rows.now (omega arith) in
-    take_at c.copy-from-slice.new.self _ k (ap length is ∙ l ∙ s) ∙ is ∙ ap (λ (j : ℕ). take j c.args.rows.now) s
+    take_at c.copy_from_slice.new.self _ k (ap length is ∙ l ∙ s) ∙ is ∙ ap (λ (j : ℕ). take j c.args.rows.now) s
