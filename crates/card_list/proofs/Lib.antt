@@ -1,1 +1,1 @@
-pub mod OwnLists
+pub mod RequestLists

@@ -1,5 +1,5 @@
 -- A card's own list, request by request.
-use Rattle.std.proofs.Common.{◌≡◌, ℕ, zero, suc, ◌+◌, ◌<◌, ◌≤◌, ◌≢◌, List, [], ◌∷◌, ◌++◌, length, get_or, take, drop, set, Some, None, Ok, Err, Option, Result, sym, refl, ap, ◌∙◌, subst, ap₂, subst₂, append_assoc, add-zero, arith, length-append, get_or-set_other, get_or-set_same, below_more}
+use Rattle.std.proofs.Common.{◌≡◌, ℕ, zero, suc, ◌+◌, ◌<◌, ◌≤◌, ◌≢◌, List, [], ◌∷◌, ◌++◌, length, get_or, take, set, Some, None, Ok, Err, Option, Result, sym, refl, ap, ◌∙◌, subst, ap₂, subst₂, append_assoc, add-zero, arith, length-append, get_or-set_other, get_or-set_same, below_more}
 use Rattle.std.proofs.lemmas.List.{append-nil, take_more, take_more_set, take-set-le, length-take-le, take_at, get_or-append-add}
 use Rattle.code.specs.declared.refusal.Section.{Section}
 use Rattle.code.specs.declared.refusal.Section.TheVariants.{Group, Transform, Coset}
@@ -7,7 +7,7 @@ use Rattle.code.specs.declared.refusal.Refusal.{Refusal}
 use Rattle.card_list.specs.declared.requests.Request.{Request}
 use Rattle.card_list.specs.declared.requests.Request.TheVariants.{AddRow, MoveOn}
 use Rattle.card_list.specs.declared.requests.Answer.{Answer}
-use Rattle.card_list.specs.declared.requests.Answer.TheVariants.{Taken, Moved, Refused, Closed}
+use Rattle.card_list.specs.declared.requests.Answer.TheVariants.{Taken, Refused, Closed}
 use Rattle.card.specs.Cards.{Card, RowTold, Told, added, blank, pushed, rows_of, section_of}
 use Rattle.card_list.specs.Requests.{View, Due, DueIn, DueAt, OwnList, afterwards, answered, card_after, card_from, moves, next_open, open_after, put_into, row_taken, taken, taken_since, view_after}
 
