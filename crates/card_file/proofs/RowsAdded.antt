@@ -16,7 +16,7 @@ use Rattle.card.proofs.Tables.{within_push, within_left, verdict-dependent, verd
 use Rattle.card_list.specs.declared.requests.Request.{Request}
 use Rattle.card_list.specs.declared.requests.Request.TheVariants.{AddRow, MoveOn}
 use Rattle.card_list.specs.declared.requests.Answer.{Answer}
-use Rattle.card_list.specs.declared.requests.Answer.TheVariants.{Taken, Moved, Refused, Closed}
+use Rattle.card_list.specs.declared.requests.Answer.TheVariants.{Taken, Moved, Refused}
 use Rattle.card_list.specs.Requests.{View, afterwards, next_open}
 use Rattle.card_list.proofs.RequestLists.{OwnFrom, Last, shown, shown-added, rows_pushed, same_view, own_from}
 use Rattle.card_file.specs.Files.{Reading, is_none, on_ok, none_left, read_rows_lem, read_section_lem, row_of, row_size}

@@ -129,7 +129,7 @@ fn read_sections(bytes: &[u8]) -> Result<(FinishedCard, usize), Refusal>
 // Reads a section's count and rows from `at` on, and tells where they end.
 fn read_section<C: TakesRows>(card: &mut C, bytes: &[u8], at: usize) -> Result<usize, Refusal>
     requires { at ≤ length bytes.now }
-    ensures read { read_to result (shown card.new) bytes.now ≡ read_section_lem part (shown card.old) (drop at bytes.now) }
+    ensures read { read_to result (C.shown card.new) bytes.now ≡ read_section_lem C.part (C.shown card.old) (drop at bytes.now) }
     ensures end { IfOk result (λ p. p ≤ length bytes.now) }
 {
     if at >= bytes.len() {
@@ -152,7 +152,7 @@ fn read_rows<C: TakesRows>(
     at: usize,
 ) -> Result<usize, Refusal>
     requires { at ≤ length bytes.now }
-    ensures read { read_to result (shown card.new) bytes.now ≡ read_rows_lem part count (shown card.old) (drop at bytes.now) }
+    ensures read { read_to result (C.shown card.new) bytes.now ≡ read_rows_lem C.part count (C.shown card.old) (drop at bytes.now) }
     ensures end { IfOk result (λ p. p ≤ length bytes.now) }
 {
     let mut end = at;

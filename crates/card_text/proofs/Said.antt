@@ -1,5 +1,5 @@
 -- A text that is read as a card says just what the card is described by.
-use Rattle.std.proofs.Common.{◌≡◌, ℕ, ◌+◌, ◌-◌, ◌≤◌, Bool, true, false, cond, ◌&&◌, eqb, ltb, leb, List, [], ◌∷◌, ◌++◌, map, length, take, drop, Some, None, Ok, Err, Option, Result, sym, refl, ap, ◌∙◌, subst, ap₂, append_assoc, arith}
+use Rattle.std.proofs.Common.{◌≡◌, ℕ, ◌+◌, ◌≤◌, Bool, true, false, cond, ◌&&◌, eqb, ltb, leb, List, [], ◌∷◌, ◌++◌, map, length, take, drop, Some, None, Ok, Err, Option, Result, sym, refl, ap, ◌∙◌, subst, ap₂, append_assoc, arith}
 use Rattle.std.proofs.lemmas.List.{append-nil, map_push}
 use Rattle.std.proofs.lemmas.Bool.{ltb-false}
 use Rattle.code.specs.declared.refusal.Section.{Section}
@@ -9,12 +9,11 @@ use Rattle.code.specs.declared.refusal.Refusal.TheVariants.{LengthOutOfRange}
 use Rattle.card.specs.Cards.{Card, blank, pushed, verdict}
 use Rattle.card_text.specs.declared.fault.Problem.{Problem}
 use Rattle.card_text.specs.declared.fault.Problem.TheVariants.{DigitCount, Refused, SectionClosed}
-use Rattle.card_text.specs.declared.fault.TextFault.{TextFault}
 use Rattle.card_text.specs.declared.line.Keyword.{Keyword}
 use Rattle.card_text.specs.declared.line.Keyword.TheVariants.{Length, Row, Unknown}
 use Rattle.card_text.specs.Lines.{binary_row, decimal_of_lem, first_odd_lem, keyword_of_lem, lines_of, passed_over, row_of, row_read, trimmed, word_length_lem}
-use Rattle.card_text.specs.Drafts.{Stage, unset, taking, entry_read, finished, in_line, length_read, line_read, lines_read, on_ok, rank, read_text_lem, reopened, row_added, started, told}
-use Rattle.card_text.specs.Sayings.{Saying, length-is, row_is, card_says, length_said, line_says, lines_say, said, text_says}
+use Rattle.card_text.specs.Drafts.{Stage, unset, taking, entry_read, in_line, line_read, lines_read, on_ok, rank, read_text_lem, started, told}
+use Rattle.card_text.specs.Sayings.{Saying, length_is, row_is, card_says, length_said, line_says, lines_say, said, text_says}
 
 no_ok : {A E : Type 0} (e : E) (a : A) → ◌≡◌ {A = Result A E} (Err e) (Ok a) → ⊥
 no_ok e a h = let z : ◌≡◌ {A = ℕ} 0 1 = cc in omega arith
@@ -60,26 +59,26 @@ says_pushed Group k row (t, c) =
     let g = map (row_is Group) k.group in
     let none : map (row_is Transform) k.transform ++ map (row_is Coset) k.coset ≡ [] =
     ap₂ (λ (x y : List ℕ). map (row_is Transform) x ++ map (row_is Coset) y) t c in
-    ap₂ (λ (x y : List Saying). length-is k.len ∷ (x ++ y)) (map_push (row_is Group) k.group row) none
-    ∙ ap (λ (x : List Saying). length-is k.len ∷ x) (append-nil (g ++ row_is Group row ∷ []))
-    ∙ sym (ap (λ (y : List Saying). length-is k.len ∷ ((g ++ y) ++ row_is Group row ∷ [])) none ∙ ap (λ (y : List Saying). length-is k.len ∷ (y ++ row_is Group row ∷ [])) (append-nil g))
+    ap₂ (λ (x y : List Saying). length_is k.len ∷ (x ++ y)) (map_push (row_is Group) k.group row) none
+    ∙ ap (λ (x : List Saying). length_is k.len ∷ x) (append-nil (g ++ row_is Group row ∷ []))
+    ∙ sym (ap (λ (y : List Saying). length_is k.len ∷ ((g ++ y) ++ row_is Group row ∷ [])) none ∙ ap (λ (y : List Saying). length_is k.len ∷ (y ++ row_is Group row ∷ [])) (append-nil g))
 says_pushed Transform k row c =
     let g = map (row_is Group) k.group in
     let t = map (row_is Transform) k.transform in
     let x = row_is Transform row ∷ [] in
     let none : map (row_is Coset) k.coset ≡ [] = ap (map (row_is Coset)) c in
-    ap₂ (λ (y z : List Saying). length-is k.len ∷ (g ++ (y ++ z))) (map_push (row_is Transform) k.transform row) none
-    ∙ ap (λ (y : List Saying). length-is k.len ∷ (g ++ y)) (append-nil (t ++ x))
-    ∙ sym (ap (λ (z : List Saying). length-is k.len ∷ ((g ++ (t ++ z)) ++ x)) none
-    ∙ ap (λ (y : List Saying). length-is k.len ∷ ((g ++ y) ++ x)) (append-nil t)
-    ∙ ap (λ (y : List Saying). length-is k.len ∷ y) (append_assoc g t x))
+    ap₂ (λ (y z : List Saying). length_is k.len ∷ (g ++ (y ++ z))) (map_push (row_is Transform) k.transform row) none
+    ∙ ap (λ (y : List Saying). length_is k.len ∷ (g ++ y)) (append-nil (t ++ x))
+    ∙ sym (ap (λ (z : List Saying). length_is k.len ∷ ((g ++ (t ++ z)) ++ x)) none
+    ∙ ap (λ (y : List Saying). length_is k.len ∷ ((g ++ y) ++ x)) (append-nil t)
+    ∙ ap (λ (y : List Saying). length_is k.len ∷ y) (append_assoc g t x))
 says_pushed Coset k row _ =
     let g = map (row_is Group) k.group in
     let t = map (row_is Transform) k.transform in
     let c = map (row_is Coset) k.coset in
     let x = row_is Coset row ∷ [] in
-    ap (λ (z : List Saying). length-is k.len ∷ (g ++ (t ++ z))) (map_push (row_is Coset) k.coset row)
-    ∙ sym (ap (λ (y : List Saying). length-is k.len ∷ y) (append_assoc g (t ++ c) x ∙ ap (λ (y : List Saying). g ++ y) (append_assoc t c x)))
+    ap (λ (z : List Saying). length_is k.len ∷ (g ++ (t ++ z))) (map_push (row_is Coset) k.coset row)
+    ∙ sym (ap (λ (y : List Saying). length_is k.len ∷ y) (append_assoc g (t ++ c) x ∙ ap (λ (y : List Saying). g ++ y) (append_assoc t c x)))
 
 -- ---- one line
 
@@ -88,11 +87,11 @@ record Goes (d e : Stage) (more : List Saying) : Type 0 where
   says : stage_says e ≡ stage_says d ++ more
   sound : Sound e
 
-starts_if : (b : Bool) (n : ℕ) (e : Stage) → cond b (Ok (taking n Group (blank n))) (Err (Refused LengthOutOfRange)) ≡ Ok e → Goes unset e (length-is n ∷ [])
+starts_if : (b : Bool) (n : ℕ) (e : Stage) → cond b (Ok (taking n Group (blank n))) (Err (Refused LengthOutOfRange)) ≡ Ok e → Goes unset e (length_is n ∷ [])
 unfolding Sound Later stage_says
 starts_if true n e h =
     let is : taking n Group (blank n) ≡ e = cc in
-    subst (λ (q : Stage). Goes unset q (length-is n ∷ [])) is (record { says = refl; sound = (refl, refl) })
+    subst (λ (q : Stage). Goes unset q (length_is n ∷ [])) is (record { says = refl; sound = (refl, refl) })
 starts_if false n e h = absurd (no_ok (Refused LengthOutOfRange) e h)
 
 starts : (o : Option ℕ) (e : Stage) → started o ≡ Ok e → Goes unset e (length_said o)

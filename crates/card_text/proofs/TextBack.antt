@@ -16,7 +16,7 @@ use Rattle.card_text.specs.declared.fault.Problem.{Problem}
 use Rattle.card_text.specs.declared.fault.Problem.TheVariants.{DigitCount, Refused, SectionClosed}
 use Rattle.card_text.specs.declared.fault.TextFault.{TextFault}
 use Rattle.card_text.specs.Lines.{binary_row, decimal_of_lem, first_odd_lem, is_binary_lem, lines_from, row_of, row_read, trimmed}
-use Rattle.card_text.specs.Drafts.{Stage, unset, taking, in_line, line_read, lines_read, on_ok, rank, read_text_lem, reopened, row_added, started, told}
+use Rattle.card_text.specs.Drafts.{Stage, unset, taking, in_line, line_read, lines_read, on_ok, rank, read_text_lem, row_added, started, told}
 use Rattle.card_text.specs.Texts.{decimal_text, digits_of, label_of, length_line, row_line, section_text, text_of}
 use Rattle.card_text.proofs.Steps.{no_return}
 use Rattle.card_text.proofs.Writings.{digits_length}

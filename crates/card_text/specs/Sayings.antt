@@ -9,11 +9,11 @@ use Rattle.card_text.specs.Lines.{decimal_of_lem, keyword_of_lem, lines_of, pass
 
 -- a length, or a row of a section
 pub data Saying : Type 0 where
-  length-is : ℕ → Saying
+  length_is : ℕ → Saying
   row_is : Section → ℕ → Saying
 
 abbrev pub length_said : Option ℕ → List Saying
-length_said (Some n) = length-is n ∷ []
+length_said (Some n) = length_is n ∷ []
 length_said None = []
 
 abbrev pub said : Keyword → List ℕ → List Saying
@@ -35,4 +35,4 @@ text_says bytes = lines_say (lines_of bytes)
 
 -- what a card is described by: its length, and then its rows in their order
 abbrev pub card_says : Card → List Saying
-card_says k = length-is k.len ∷ (map (row_is Group) k.group ++ (map (row_is Transform) k.transform ++ map (row_is Coset) k.coset))
+card_says k = length_is k.len ∷ (map (row_is Group) k.group ++ (map (row_is Transform) k.transform ++ map (row_is Coset) k.coset))

@@ -1,8 +1,8 @@
 -- The test of a top is right.
-use Rattle.std.proofs.Common.{◌≡◌, ℕ, zero, suc, ◌<◌, ◌≤◌, Bool, true, cond, T, ltb, ◌⊎◌, ℤ, ◌≤ℤ◌, ◌<ℤ◌, sym, subst, inl, inr, ⊎_elim, arith}
+use Rattle.std.proofs.Common.{◌≡◌, ℕ, zero, suc, ◌<◌, true, cond, ltb, ℤ, ◌≤ℤ◌, ◌<ℤ◌, subst, ⊎_elim, arith}
 use lib.Signed.{lt_z, le_z}
 use Rattle.std.proofs.lemmas.Int.{ints}
-use Rattle.std.proofs.lemmas.Bool.{and_parts, cases_lt, lt-ltb, le-ltb, cond-true, cond-false}
+use Rattle.std.proofs.lemmas.Bool.{and_parts, cases_lt, lt-ltb, le-ltb}
 use Rattle.code.specs.Words.{Top}
 use Rattle.cases.specs.Tested.{none_above}
 

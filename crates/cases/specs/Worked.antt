@@ -1,5 +1,5 @@
 -- Worked cases, each by the definitions that the contracts cite.
-use Rattle.std.specs.Prelude.{◌≡◌, ℕ, ◌^◌, List, [], ◌∷◌, ℤ, pos, negsuc, neg_ℤ, Some, Ok, Err, from_bits}
+use Rattle.std.specs.Prelude.{◌≡◌, ℕ, List, [], ◌∷◌, ℤ, pos, negsuc, neg_ℤ, Some, Ok, Err, from_bits}
 use Rattle.std.specs.Float.{binary32}
 use Rattle.code.specs.declared.refusal.Section.TheVariants.{Group}
 use Rattle.code.specs.declared.refusal.Refusal.TheVariants.{DependentRow, ConcurrenceBroken}

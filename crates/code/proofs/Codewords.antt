@@ -1,5 +1,5 @@
 -- Code words: linear in the message, and row by row.
-use Rattle.std.proofs.Common.{◌≡◌, ℕ, suc, ◌+◌, ◌*◌, ◌/◌, ◌%◌, ◌^◌, ◌<◌, List, [], ◌∷◌, ◌++◌, length, get_or, drop, sym, refl, ap, ◌∙◌, ap₂, mod-lt, one-mul, zero-mul, mul_left_comm, arith}
+use Rattle.std.proofs.Common.{◌≡◌, ℕ, suc, ◌+◌, ◌*◌, ◌/◌, ◌%◌, ◌^◌, ◌<◌, List, [], ◌∷◌, ◌++◌, length, get_or, drop, sym, refl, ap, ◌∙◌, ap₂, one-mul, zero-mul, mul_left_comm, arith}
 use native.Mathlib.Nat.{pow-succ'}
 use lib.Bits.{bit_xor, xor_assoc, xor_zero_r, xor_zero_l, xor_shr, xor_mod}
 use Rattle.std.proofs.lemmas.List.{drop_more, drop_all}

@@ -1,8 +1,7 @@
 -- Powers of two, and what is said of a list.
-use Rattle.std.proofs.Common.{◌≡◌, ℕ, zero, suc, ◌+◌, ◌-◌, ◌*◌, ◌/◌, ◌^◌, ◌<◌, ◌≤◌, true, false, Ok, Err, Result, sym, refl, ap, ◌∙◌, subst, inl, inr, ⊎_elim, pow-suc, add-one, arith}
+use Rattle.std.proofs.Common.{◌≡◌, ℕ, zero, suc, ◌+◌, ◌-◌, ◌*◌, ◌/◌, ◌^◌, ◌<◌, ◌≤◌, true, false, Ok, Err, sym, ap, ◌∙◌, ⊎_elim, pow-suc, add-one, arith}
 use Rattle.std.proofs.lemmas.Bool.{eq-eqb, ne_eqb, or_from, or_left, or_right, cases_eq, cond-true, cond-false, le-leb, lt-leb}
 use Rattle.code.specs.Limits.{sum_limit}
-use Rattle.code.specs.declared.refusal.Refusal.{Refusal}
 use Rattle.code.specs.declared.refusal.Refusal.TheVariants.{ListNotPower, ListTotalTooLarge}
 use Rattle.hadamard.specs.Transform.{is_power, verdict, max_exponent}
 

@@ -1,5 +1,5 @@
 -- Which signs a transform has in its four quarters.
-use Rattle.std.proofs.Common.{◌≡◌, ℕ, ◌+◌, ◌*◌, ◌^◌, ◌<◌, Bool, true, false, not, ℤ, pos, ◌+ℤ◌, neg_ℤ, sym, refl, ap, ◌∙◌, ap₂, arith}
+use Rattle.std.proofs.Common.{◌≡◌, ℕ, ◌+◌, ◌*◌, ◌^◌, ◌<◌, Bool, true, false, not, ℤ, ◌+ℤ◌, neg_ℤ, sym, refl, ap, ◌∙◌, ap₂, arith}
 use lib.Bits.{bit_and, and_block, and_lt}
 use lib.Count.{ones, ones_cat, ones_step}
 use Rattle.std.proofs.lemmas.Int.{ints}

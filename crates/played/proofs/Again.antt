@@ -1,5 +1,5 @@
 -- What was played once at full level is found again.
-use Rattle.std.proofs.Common.{◌≡◌, ℕ, ◌+◌, ◌*◌, ◌^◌, ◌<◌, ◌≤◌, List, [], ◌∷◌, ◌++◌, map, length, get_or, replicate, ℤ, pos, ◌≤ℤ◌, ◌<ℤ◌, Ok, Result, sym, refl, ap, ◌∙◌, subst, ap₂, inl, inr, mul_assoc, arith}
+use Rattle.std.proofs.Common.{◌≡◌, ℕ, ◌+◌, ◌*◌, ◌^◌, ◌<◌, ◌≤◌, List, [], ◌∷◌, ◌++◌, length, get_or, replicate, ℤ, pos, ◌≤ℤ◌, ◌<ℤ◌, Result, sym, ap, ◌∙◌, subst, ap₂, inl, inr, mul_assoc, arith}
 use lib.Bits.{bit_xor, xor_self, xor_lt, xor_zero_l}
 use lib.Signed.{clash_ℤ}
 use Rattle.std.proofs.lemmas.Bool.{cases_eq}
@@ -10,17 +10,17 @@ use Rattle.code.specs.declared.refusal.Refusal.{Refusal}
 use Rattle.code.proofs.Agreements.{agreement_negated}
 use Rattle.code.proofs.Xor.{cancel}
 use Rattle.code.proofs.Spans.{independent_distinct}
-use Rattle.card.specs.Cards.{Card, Lawful, rows_of}
+use Rattle.card.specs.Cards.{rows_of}
 use Rattle.sample.specs.declared.Sample.{Sample}
 use Rattle.sample.proofs.Faults.{first_good}
 use Rattle.finder.specs.declared.found.Found.{Found}
 use Rattle.sheet.specs.declared.Sheet.{Sheet}
-use Rattle.sheet.specs.Cells.{covered, pass_check}
-use Rattle.sheet.specs.Book.{Call, Pass, Book, book_of, add_labels, unless_refused, step, SearchRule}
-use Rattle.sheet.specs.Stands.{cells_of, book_at, Stands, SearchLaw}
+use Rattle.sheet.specs.Cells.{covered}
+use Rattle.sheet.specs.Book.{Call, Pass, Book, book_of, add_labels, unless_refused}
+use Rattle.sheet.specs.Stands.{cells_of, book_at, SearchLaw}
 use Rattle.sheet.proofs.Books.{book_push}
 use Rattle.sheet.proofs.Checks.{check_samples_lem}
-use Rattle.played.specs.Played.{PlaysWord, FoundAgain, Again}
+use Rattle.played.specs.Played.{PlaysWord, Again}
 use Rattle.played.proofs.Levels.{agree_less, agree_zero, codeword_within}
 use Rattle.played.proofs.Blank.{quiet-book}
 use Rattle.played.proofs.Totals.{full_totals, plays_good}

@@ -88,8 +88,8 @@ fn search_played<R: Reading, F: Finder>(
     finder: &F,
     work: &mut [R],
 ) -> Result<Found<R>, Refusal>
-    ensures law { SearchLaw weight size MAIN_UNIT SECOND_UNIT sheet.old sheet.new (F.Finder.span finder.now) (F.Finder.rows finder.now) (F.Finder.need finder.now) work.old work.new result }
-    ensures again { Again weight size MAIN_UNIT SECOND_UNIT sheet.old (F.Finder.span finder.now) (F.Finder.rows finder.now) (F.Finder.need finder.now) (length work.old) result }
+    ensures law { SearchLaw R.Reading.weight R.Reading.size R.Reading.MAIN_UNIT R.Reading.SECOND_UNIT sheet.old sheet.new (F.Finder.span finder.now) (F.Finder.rows finder.now) (F.Finder.need finder.now) work.old work.new result }
+    ensures again { Again R.Reading.weight R.Reading.size R.Reading.MAIN_UNIT R.Reading.SECOND_UNIT sheet.old (F.Finder.span finder.now) (F.Finder.rows finder.now) (F.Finder.need finder.now) (length work.old) result }
     ensures named { sheet.new.cells.ghost_name ≡ sheet.old.cells.ghost_name }
 {
     sheet.search(finder, work)
@@ -102,8 +102,8 @@ pub fn find_again<R: Reading, F: Finder>(
     finder: &F,
     work: &mut [R],
 ) -> Result<Found<R>, Refusal>
-    ensures law { SearchLaw weight size MAIN_UNIT SECOND_UNIT sheet.old sheet.new (F.Finder.span finder.now) (F.Finder.rows finder.now) (F.Finder.need finder.now) work.old work.new result }
-    ensures again { Again weight size MAIN_UNIT SECOND_UNIT sheet.old (F.Finder.span finder.now) (F.Finder.rows finder.now) (F.Finder.need finder.now) (length work.old) result }
+    ensures law { SearchLaw R.Reading.weight R.Reading.size R.Reading.MAIN_UNIT R.Reading.SECOND_UNIT sheet.old sheet.new (F.Finder.span finder.now) (F.Finder.rows finder.now) (F.Finder.need finder.now) work.old work.new result }
+    ensures again { Again R.Reading.weight R.Reading.size R.Reading.MAIN_UNIT R.Reading.SECOND_UNIT sheet.old (F.Finder.span finder.now) (F.Finder.rows finder.now) (F.Finder.need finder.now) (length work.old) result }
     ensures named { sheet.new.cells.ghost_name ≡ sheet.old.cells.ghost_name }
 {
     search_played(sheet, finder, work)

@@ -1,5 +1,5 @@
 -- What each call does to the book, and to a sheet that stands for it.
-use Rattle.std.proofs.Common.{◌≡◌, ℕ, suc, ◌+◌, ◌*◌, ◌<◌, ◌≤◌, min, cond, ◌⊎◌, List, [], ◌∷◌, ◌++◌, map, length, get_or, take, drop, set, replicate, ℤ, pos, ◌+ℤ◌, Some, None, Ok, Err, Result, sym, refl, ap, ◌∙◌, subst, ap₂, inl, inr, arith}
+use Rattle.std.proofs.Common.{◌≡◌, ℕ, suc, ◌+◌, ◌*◌, ◌<◌, ◌≤◌, min, cond, List, [], ◌∷◌, ◌++◌, map, length, get_or, take, set, replicate, ℤ, pos, ◌+ℤ◌, Some, Ok, Err, sym, refl, ap, ◌∙◌, subst, ap₂, inl, inr, arith}
 use borrow.Author.Tests.{lt-true, le-false}
 use lib.Seq.{take-set-lt}
 use Rattle.std.proofs.lemmas.List.{length-map, length-take, length-set, get_or-take, get_or-set_same, get_or-set_other, map-set, set_past}
@@ -11,7 +11,7 @@ use Rattle.sample.specs.declared.Sample.{Sample}
 use Rattle.sample.specs.Samples.{answer}
 use Rattle.sample.proofs.Bounds.{main_bound, second_bound}
 use Rattle.sheet.specs.declared.Sheet.{Sheet}
-use Rattle.sheet.specs.Cells.{max_passes, covered, label_weight, label_size, pass_check, Blank, AllBlank, Grown, Added, Passed, PassFails}
+use Rattle.sheet.specs.Cells.{max_passes, covered, label_weight, pass_check, Blank, AllBlank, Passed, PassFails}
 use Rattle.sheet.specs.Book.{Call, Pass, Strike, Clear, Search, Book, step, after, laid, book_of, add_labels, unless_refused, pass_answer, strike_answer}
 use Rattle.sheet.specs.Stands.{cells_of, front, book_at, Stands, Same}
 use Rattle.sheet.proofs.Checks.{none-overgrown}

@@ -1,13 +1,13 @@
 -- The checks of a pass, and their order.
-use Rattle.std.proofs.Common.{◌≡◌, ℕ, ◌+◌, ◌*◌, ◌<◌, ◌≤◌, cond, ltb, ◌⊎◌, List, [], ◌∷◌, length, get_or, ℤ, Some, None, Ok, Err, Result, sym, refl, ap, ◌∙◌, inl, inr, arith, le-ltb, lt-ltb, eq-eqb, ne_eqb, MatchResult}
-use Rattle.code.specs.Limits.{full_label, sum_limit, size_limit}
+use Rattle.std.proofs.Common.{◌≡◌, ℕ, ◌+◌, ◌*◌, ◌<◌, ◌≤◌, cond, ltb, List, [], ◌∷◌, length, get_or, ℤ, Some, None, Ok, Err, Result, ap, ◌∙◌, inl, inr, arith, le-ltb, lt-ltb, eq-eqb, ne_eqb, MatchResult}
+use Rattle.code.specs.Limits.{full_label}
 use Rattle.code.specs.declared.refusal.Refusal.{Refusal}
 use Rattle.code.specs.declared.refusal.Refusal.TheVariants.{PassLengthDiffers, TooManyPasses}
 use Rattle.sample.specs.declared.Sample.{Sample}
-use Rattle.sample.specs.Samples.{answer, first_fault, AllGood, FirstBad}
+use Rattle.sample.specs.Samples.{answer, first_fault, AllGood}
 use Rattle.sample.proofs.Faults.{first_good, first_bad}
 use Rattle.sample.proofs.Bounds.{main_bound, second_bound}
-use Rattle.sheet.specs.Cells.{max_passes, pass_check, Fits, Overgrown, FirstOvergrown, PassFits, PassFails}
+use Rattle.sheet.specs.Cells.{max_passes, pass_check, Fits, FirstOvergrown, PassFits, PassFails}
 use Rattle.sheet.specs.Book.{Book, pass_answer, PassRule}
 
 pub check_length : (n k : ℕ) (ss : List Sample) → (length ss ≡ n → ⊥) → pass_check n k ss ≡ Some PassLengthDiffers

@@ -1,5 +1,5 @@
 -- A write to the covered cells, `&mut cells[0..n]`.
-use Rattle.std.proofs.Common.{◌≡◌, ℕ, ◌+◌, ◌-◌, ◌<◌, ◌≤◌, min, List, [], ◌∷◌, ◌++◌, length, get_or, take, drop, sym, refl, ap, ◌∙◌, arith}
+use Rattle.std.proofs.Common.{◌≡◌, ℕ, ◌+◌, ◌-◌, ◌<◌, min, List, ◌++◌, length, get_or, take, drop, sym, ap, ◌∙◌, arith}
 use borrow.Rule.Slice.PartMut.{post_of}
 use Rattle.code.specs.Limits.{max_places}
 use Rattle.std.proofs.lemmas.List.{take-append-drop, same_lists, get_or-take, get_or-drop, get_or_append_left, get_or-append_right, length-take, length-drop, length-append}

@@ -1,5 +1,5 @@
 -- Runs: what a list of requests comes to, by the book.
-use Rattle.std.specs.Prelude.{◌≡◌, ℕ, ◌<◌, ◌≤◌, List, [], ◌∷◌, ◌++◌, map, length, take, drop, ℤ, Some, None, Ok, Err, Option, Result, slice_index_or}
+use Rattle.std.specs.Prelude.{◌≡◌, ℕ, ◌<◌, ◌≤◌, List, ◌++◌, map, length, take, drop, ℤ, Some, None, Ok, Err, Option, Result, slice_index_or}
 use Rattle.code.specs.Limits.{max_places}
 use Rattle.code.specs.declared.refusal.Refusal.{Refusal}
 use Rattle.finder.specs.declared.found.Found.{Found}
@@ -10,7 +10,7 @@ use Rattle.sheet.specs.declared.run.Answer.{Answer}
 use Rattle.sheet.specs.declared.run.Answer.TheVariants.{Passed, Struck, Cleared, Searched}
 use Rattle.sheet.specs.Cells.{covered}
 use Rattle.sheet.specs.Book.{Call, Pass, Strike, Clear, Search, Book, book_of, pass_answer, strike_answer, PassRule, SearchRule}
-use Rattle.sheet.specs.Stands.{cells_of, book_at, Stands, Booked, Kept, PassLaw, StrikeLaw, ClearLaw, SearchLaw}
+use Rattle.sheet.specs.Stands.{cells_of, Stands, Booked, Kept, PassLaw, StrikeLaw, ClearLaw, SearchLaw}
 
 -- what the book is told of a request
 abbrev pub call_of : {F : Type 0} → Request F → Call

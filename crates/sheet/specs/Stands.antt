@@ -84,5 +84,5 @@ module _ {R : Type 0} (weight : R → ℤ) (size : R → ℕ) (main second : ℕ
     pub between : Sheet R
     pub left : List R
     pub by_first : SearchLaw t between span rows need work left r
-    pub by-second : SearchLaw between u span' rows' need' left after r'
+    pub by_second : SearchLaw between u span' rows' need' left after r'
     pub agree : rows ≡ rows' → SameFound weight r r'

@@ -23,14 +23,14 @@ pub(crate) fn covering(len: usize) -> usize
 
 // The reading made from 0 and 0.
 pub(crate) fn blank<R: Reading>() -> R
-    ensures { Blank weight size result }
+    ensures { Blank R.Reading.weight R.Reading.size result }
 {
     R::make(0, 0)
 }
 
 // Sets each cell to the reading made from 0 and 0.
 pub(crate) fn lay_out<R: Reading>(cells: &mut [R])
-    ensures { AllBlank weight size cells.new }
+    ensures { AllBlank R.Reading.weight R.Reading.size cells.new }
 {
     for cell in cells.iter_mut() {
         *cell = blank();
@@ -39,9 +39,9 @@ pub(crate) fn lay_out<R: Reading>(cells: &mut [R])
 
 // A cell with the reading made from the sample added, which stands at that place.
 fn grown<R: Reading>(cell: R, sample: &Sample, place: usize) -> R
-    requires room { size cell + full_label ≤ sum_limit }
+    requires room { R.Reading.size cell + full_label ≤ sum_limit }
     requires good { Good sample.now }
-    ensures { Grown weight size MAIN_UNIT SECOND_UNIT sample.now cell result }
+    ensures { Grown R.Reading.weight R.Reading.size R.Reading.MAIN_UNIT R.Reading.SECOND_UNIT sample.now cell result }
 {
     match sample.labels(place) {
         Ok(labels) => cell.add(R::make(labels.main, labels.second)),
@@ -52,8 +52,8 @@ fn grown<R: Reading>(cell: R, sample: &Sample, place: usize) -> R
 // Whether the cell takes the sample.
 fn takes<R: Reading>(cell: R, sample: &Sample, place: usize) -> bool
     requires { Good sample.now }
-    ensures yes { result ≡ true → Fits weight size MAIN_UNIT SECOND_UNIT sample.now cell }
-    ensures no { result ≡ false → Overgrown weight size MAIN_UNIT SECOND_UNIT sample.now cell }
+    ensures yes { result ≡ true → Fits R.Reading.weight R.Reading.size R.Reading.MAIN_UNIT R.Reading.SECOND_UNIT sample.now cell }
+    ensures no { result ≡ false → Overgrown R.Reading.weight R.Reading.size R.Reading.MAIN_UNIT R.Reading.SECOND_UNIT sample.now cell }
 {
     if cell.size() > LARGEST_ADDED {
         return false;
@@ -65,8 +65,8 @@ fn takes<R: Reading>(cell: R, sample: &Sample, place: usize) -> bool
 fn check_sizes<R: Reading>(cells: &[R], samples: &[Sample]) -> Result<(), Refusal>
     requires { (length samples.now ≡ length cells.now) × (AllGood samples.now) }
     ensures { MatchResult result
-        (λ _. (k : ℕ) (x : Sample) (d : R) → k < length samples.now → Fits weight size MAIN_UNIT SECOND_UNIT (slice_index_or samples.now k x) (slice_index_or cells.now k d))
-        (FirstOvergrown weight size MAIN_UNIT SECOND_UNIT samples.now cells.now) }
+        (λ _. (k : ℕ) (x : Sample) (d : R) → k < length samples.now → Fits R.Reading.weight R.Reading.size R.Reading.MAIN_UNIT R.Reading.SECOND_UNIT (slice_index_or samples.now k x) (slice_index_or cells.now k d))
+        (FirstOvergrown R.Reading.weight R.Reading.size R.Reading.MAIN_UNIT R.Reading.SECOND_UNIT samples.now cells.now) }
 {
     for (i, sample) in samples.iter().enumerate() {
         if !takes(cells[i], sample, i) {
@@ -79,8 +79,8 @@ fn check_sizes<R: Reading>(cells: &[R], samples: &[Sample]) -> Result<(), Refusa
 // The checks of a pass, in their order: its length, the passes taken, its samples, the new sizes.
 fn check_pass<R: Reading>(cells: &[R], passes: u32, samples: &[Sample]) -> Result<(), Refusal>
     ensures { MatchResult result
-        (λ _. PassFits weight size MAIN_UNIT SECOND_UNIT samples.now passes cells.now)
-        (PassFails weight size MAIN_UNIT SECOND_UNIT samples.now passes cells.now) }
+        (λ _. PassFits R.Reading.weight R.Reading.size R.Reading.MAIN_UNIT R.Reading.SECOND_UNIT samples.now passes cells.now)
+        (PassFails R.Reading.weight R.Reading.size R.Reading.MAIN_UNIT R.Reading.SECOND_UNIT samples.now passes cells.now) }
 {
     if samples.len() != cells.len() {
         return Err(Refusal::PassLengthDiffers);
@@ -98,8 +98,8 @@ fn check_pass<R: Reading>(cells: &[R], passes: u32, samples: &[Sample]) -> Resul
 fn add_samples<R: Reading>(cells: &mut [R], samples: &[Sample])
     requires long { length samples.now ≡ length cells.old }
     requires good { AllGood samples.now }
-    requires fits { (k : ℕ) (x : Sample) (d : R) → k < length samples.now → Fits weight size MAIN_UNIT SECOND_UNIT (slice_index_or samples.now k x) (slice_index_or cells.old k d) }
-    ensures { Added weight size MAIN_UNIT SECOND_UNIT samples.now (length samples.now) cells.old cells.new }
+    requires fits { (k : ℕ) (x : Sample) (d : R) → k < length samples.now → Fits R.Reading.weight R.Reading.size R.Reading.MAIN_UNIT R.Reading.SECOND_UNIT (slice_index_or samples.now k x) (slice_index_or cells.old k d) }
+    ensures { Added R.Reading.weight R.Reading.size R.Reading.MAIN_UNIT R.Reading.SECOND_UNIT samples.now (length samples.now) cells.old cells.new }
 {
     for (i, sample) in samples.iter().enumerate() {
         cells[i] = grown(cells[i], sample, i);
@@ -113,8 +113,8 @@ pub(crate) fn add_pass<R: Reading>(
     samples: &[Sample],
 ) -> Result<u32, Refusal>
     ensures { MatchResult result
-        (Passed weight size MAIN_UNIT SECOND_UNIT samples.now passes cells.old cells.new)
-        (λ e. PassFails weight size MAIN_UNIT SECOND_UNIT samples.now passes cells.old e × (cells.new ≡ cells.old)) }
+        (Passed R.Reading.weight R.Reading.size R.Reading.MAIN_UNIT R.Reading.SECOND_UNIT samples.now passes cells.old cells.new)
+        (λ e. PassFails R.Reading.weight R.Reading.size R.Reading.MAIN_UNIT R.Reading.SECOND_UNIT samples.now passes cells.old e × (cells.new ≡ cells.old)) }
 {
     match check_pass(cells, passes, samples) {
         Ok(()) => {

@@ -25,7 +25,7 @@ pub struct Sheet<'a, R> {
 impl<'a, R: Reading> Sheet<'a, R> {
     // Lays out a sheet over the cells: each covered one is set to the reading made from 0 and 0, and there are no passes.
     pub fn new(cells: &'a mut [R]) -> Self
-        ensures stands { Stands weight size MAIN_UNIT SECOND_UNIT [] result }
+        ensures stands { Stands R.Reading.weight R.Reading.size R.Reading.MAIN_UNIT R.Reading.SECOND_UNIT [] result }
         ensures long { length (cells_of result) ≡ length cells.old }
         ensures beyond { drop max_places (cells_of result) ≡ drop max_places cells.old }
         ensures named { result.cells.ghost_name ≡ cells.entry.ghost_name }
@@ -60,14 +60,14 @@ impl<'a, R: Reading> Sheet<'a, R> {
     // Takes a pass: adds to each cell the reading made from its sample, and answers the new pass count.
     // The pass is checked whole before anything is added.
     pub fn pass(&mut self, samples: &[Sample]) -> Result<u32, Refusal>
-        ensures law { PassLaw weight size MAIN_UNIT SECOND_UNIT self.old self.new samples.now result }
+        ensures law { PassLaw R.Reading.weight R.Reading.size R.Reading.MAIN_UNIT R.Reading.SECOND_UNIT self.old self.new samples.now result }
         ensures named { self.new.cells.ghost_name ≡ self.old.cells.ghost_name }
     {
         self.pass_covered(samples)
     }
 
     fn pass_covered(&mut self, samples: &[Sample]) -> Result<u32, Refusal>
-        ensures law { PassLaw weight size MAIN_UNIT SECOND_UNIT self.old self.new samples.now result }
+        ensures law { PassLaw R.Reading.weight R.Reading.size R.Reading.MAIN_UNIT R.Reading.SECOND_UNIT self.old self.new samples.now result }
         ensures named { self.new.cells.ghost_name ≡ self.old.cells.ghost_name }
     {
         let n = covering(self.cells.len());
@@ -83,14 +83,14 @@ impl<'a, R: Reading> Sheet<'a, R> {
 
     // Strikes one cell: sets it to the reading made from 0 and 0.
     pub fn strike(&mut self, place: usize) -> Result<(), Refusal>
-        ensures law { StrikeLaw weight size MAIN_UNIT SECOND_UNIT self.old self.new place result }
+        ensures law { StrikeLaw R.Reading.weight R.Reading.size R.Reading.MAIN_UNIT R.Reading.SECOND_UNIT self.old self.new place result }
         ensures named { self.new.cells.ghost_name ≡ self.old.cells.ghost_name }
     {
         self.strike_covered(place)
     }
 
     fn strike_covered(&mut self, place: usize) -> Result<(), Refusal>
-        ensures law { StrikeLaw weight size MAIN_UNIT SECOND_UNIT self.old self.new place result }
+        ensures law { StrikeLaw R.Reading.weight R.Reading.size R.Reading.MAIN_UNIT R.Reading.SECOND_UNIT self.old self.new place result }
         ensures named { self.new.cells.ghost_name ≡ self.old.cells.ghost_name }
     {
         if place >= covering(self.cells.len()) {
@@ -102,14 +102,14 @@ impl<'a, R: Reading> Sheet<'a, R> {
 
     // Lays the sheet out anew.
     pub fn clear(&mut self)
-        ensures law { ClearLaw weight size MAIN_UNIT SECOND_UNIT self.old self.new }
+        ensures law { ClearLaw R.Reading.weight R.Reading.size R.Reading.MAIN_UNIT R.Reading.SECOND_UNIT self.old self.new }
         ensures named { self.new.cells.ghost_name ≡ self.old.cells.ghost_name }
     {
         self.clear_covered();
     }
 
     fn clear_covered(&mut self)
-        ensures law { ClearLaw weight size MAIN_UNIT SECOND_UNIT self.old self.new }
+        ensures law { ClearLaw R.Reading.weight R.Reading.size R.Reading.MAIN_UNIT R.Reading.SECOND_UNIT self.old self.new }
         ensures named { self.new.cells.ghost_name ≡ self.old.cells.ghost_name }
     {
         let n = covering(self.cells.len());
@@ -119,14 +119,14 @@ impl<'a, R: Reading> Sheet<'a, R> {
 
     // Hands the covered cells to a finder. The sheet is the same afterwards.
     pub fn search<F: Finder>(&mut self, finder: &F, work: &mut [R]) -> Result<Found<R>, Refusal>
-        ensures law { SearchLaw weight size MAIN_UNIT SECOND_UNIT self.old self.new (F.Finder.span finder.now) (F.Finder.rows finder.now) (F.Finder.need finder.now) work.old work.new result }
+        ensures law { SearchLaw R.Reading.weight R.Reading.size R.Reading.MAIN_UNIT R.Reading.SECOND_UNIT self.old self.new (F.Finder.span finder.now) (F.Finder.rows finder.now) (F.Finder.need finder.now) work.old work.new result }
         ensures named { self.new.cells.ghost_name ≡ self.old.cells.ghost_name }
     {
         self.search_covered(finder, work)
     }
 
     fn search_covered<F: Finder>(&mut self, finder: &F, work: &mut [R]) -> Result<Found<R>, Refusal>
-        ensures law { SearchLaw weight size MAIN_UNIT SECOND_UNIT self.old self.new (F.Finder.span finder.now) (F.Finder.rows finder.now) (F.Finder.need finder.now) work.old work.new result }
+        ensures law { SearchLaw R.Reading.weight R.Reading.size R.Reading.MAIN_UNIT R.Reading.SECOND_UNIT self.old self.new (F.Finder.span finder.now) (F.Finder.rows finder.now) (F.Finder.need finder.now) work.old work.new result }
         ensures named { self.new.cells.ghost_name ≡ self.old.cells.ghost_name }
     {
         let n = covering(self.cells.len());
@@ -141,7 +141,7 @@ impl<'a, R: Reading> Sheet<'a, R> {
         b: &B,
         work: &mut [R],
     ) -> (Result<Found<R>, Refusal>, Result<Found<R>, Refusal>)
-        ensures law { BothLaw weight size MAIN_UNIT SECOND_UNIT self.old self.new (A.Finder.span a.now) (A.Finder.rows a.now) (A.Finder.need a.now) (B.Finder.span b.now) (B.Finder.rows b.now) (B.Finder.need b.now) work.old work.new result.0 result.1 }
+        ensures law { BothLaw R.Reading.weight R.Reading.size R.Reading.MAIN_UNIT R.Reading.SECOND_UNIT self.old self.new (A.Finder.span a.now) (A.Finder.rows a.now) (A.Finder.need a.now) (B.Finder.span b.now) (B.Finder.rows b.now) (B.Finder.need b.now) work.old work.new result.0 result.1 }
         ensures named { self.new.cells.ghost_name ≡ self.old.cells.ghost_name }
     {
         self.search_twice(a, b, work)
@@ -153,7 +153,7 @@ impl<'a, R: Reading> Sheet<'a, R> {
         b: &B,
         work: &mut [R],
     ) -> (Result<Found<R>, Refusal>, Result<Found<R>, Refusal>)
-        ensures law { BothLaw weight size MAIN_UNIT SECOND_UNIT self.old self.new (A.Finder.span a.now) (A.Finder.rows a.now) (A.Finder.need a.now) (B.Finder.span b.now) (B.Finder.rows b.now) (B.Finder.need b.now) work.old work.new result.0 result.1 }
+        ensures law { BothLaw R.Reading.weight R.Reading.size R.Reading.MAIN_UNIT R.Reading.SECOND_UNIT self.old self.new (A.Finder.span a.now) (A.Finder.rows a.now) (A.Finder.need a.now) (B.Finder.span b.now) (B.Finder.rows b.now) (B.Finder.need b.now) work.old work.new result.0 result.1 }
         ensures named { self.new.cells.ghost_name ≡ self.old.cells.ghost_name }
     {
         let first = self.search_covered(a, work);

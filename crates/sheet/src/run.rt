@@ -32,7 +32,7 @@ pub enum Answer<R> {
 impl<'a, R: Reading> Sheet<'a, R> {
     // Makes one request of the sheet.
     pub fn serve<F: Finder>(&mut self, request: &Request<F>, work: &mut [R]) -> Answer<R>
-        ensures law { Served weight size MAIN_UNIT SECOND_UNIT F.Finder.span F.Finder.rows F.Finder.need (length work.old) self.old self.new request.now work.old work.new result }
+        ensures law { Served R.Reading.weight R.Reading.size R.Reading.MAIN_UNIT R.Reading.SECOND_UNIT F.Finder.span F.Finder.rows F.Finder.need (length work.old) self.old self.new request.now work.old work.new result }
         ensures named { self.new.cells.ghost_name ≡ self.old.cells.ghost_name }
     {
         match request {
@@ -49,7 +49,7 @@ impl<'a, R: Reading> Sheet<'a, R> {
     // Makes the requests in order and writes the answers out.
     fn run<F: Finder>(&mut self, requests: &[Request<F>], work: &mut [R], answers: &mut [Answer<R>])
         requires { length requests.now ≤ length answers.old }
-        ensures law { (h : List Call) → Stands weight size MAIN_UNIT SECOND_UNIT h self.old → Ran weight size MAIN_UNIT SECOND_UNIT F.Finder.span F.Finder.rows F.Finder.need (length work.old) h requests.now (length requests.now) self.old self.new answers.new }
+        ensures law { (h : List Call) → Stands R.Reading.weight R.Reading.size R.Reading.MAIN_UNIT R.Reading.SECOND_UNIT h self.old → Ran R.Reading.weight R.Reading.size R.Reading.MAIN_UNIT R.Reading.SECOND_UNIT F.Finder.span F.Finder.rows F.Finder.need (length work.old) h requests.now (length requests.now) self.old self.new answers.new }
         ensures kept { Kept self.old self.new }
         ensures spared { Spared F.Finder.need requests.now (length requests.now) answers.new work.old work.new }
         ensures rest { drop (length requests.now) answers.new ≡ drop (length requests.now) answers.old }
@@ -69,7 +69,7 @@ fn run_laid_out<R: Reading, F: Finder>(
     answers: &mut [Answer<R>],
 ) -> u32
     requires { length requests.now ≤ length answers.old }
-    ensures { RanOver weight size MAIN_UNIT SECOND_UNIT F.Finder.span F.Finder.rows F.Finder.need requests.now result cells.old cells.new work.old work.new answers.old answers.new }
+    ensures { RanOver R.Reading.weight R.Reading.size R.Reading.MAIN_UNIT R.Reading.SECOND_UNIT F.Finder.span F.Finder.rows F.Finder.need requests.now result cells.old cells.new work.old work.new answers.old answers.new }
 {
     let mut sheet = Sheet::new(cells);
     sheet.run(requests, work, answers);
@@ -85,7 +85,7 @@ pub fn run_over<R: Reading, F: Finder>(
     answers: &mut [Answer<R>],
 ) -> Result<u32, Refusal>
     ensures law { MatchResult result
-        (λ count. RanOver weight size MAIN_UNIT SECOND_UNIT F.Finder.span F.Finder.rows F.Finder.need requests.now count cells.old cells.new work.old work.new answers.old answers.new)
+        (λ count. RanOver R.Reading.weight R.Reading.size R.Reading.MAIN_UNIT R.Reading.SECOND_UNIT F.Finder.span F.Finder.rows F.Finder.need requests.now count cells.old cells.new work.old work.new answers.old answers.new)
         (λ e. (e ≡ OutputShort) × (length answers.old < length requests.now)) }
     ensures refused { MatchResult result (λ _. length requests.now ≤ length answers.old) (λ _. (cells.new ≡ cells.old) × (work.new ≡ work.old) × (answers.new ≡ answers.old)) }
 {

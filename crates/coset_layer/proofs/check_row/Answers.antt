@@ -1,5 +1,5 @@
-use Rattle.std.proofs.Common.{◌≡◌, ◌+◌, ◌^◌, ◌<◌, true, ltb, length, sym, ap, ◌∙◌, arith, rules}
-use Rattle.std.proofs.lemmas.Bool.{ltb-true, lt-ltb}
+use Rattle.std.proofs.Common.{◌≡◌, ◌+◌, ◌^◌, ◌<◌, true, ltb, sym, arith, rules}
+use Rattle.std.proofs.lemmas.Bool.{ltb-true}
 use Rattle.coset_layer.specs.Pile.{layer_rows}
 use Rattle.coset_layer.specs.Piles.{pile_more, verdict-taken}
 use Rattle.coset_layer.proofs.check_row.Goals as goal

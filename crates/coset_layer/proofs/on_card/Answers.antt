@@ -1,13 +1,12 @@
-use Rattle.std.proofs.Common.{◌≡◌, ℕ, ◌+◌, ◌≤◌, List, ◌++◌, length, take, drop, sym, refl, ap, ◌∙◌, subst, ap₂, arith, rules}
+use Rattle.std.proofs.Common.{ℕ, ◌+◌, ◌≤◌, List, ◌++◌, length, take, drop, sym, ap, ◌∙◌, subst, ap₂, arith}
 use Rattle.std.proofs.lemmas.List.{length-append, append_assoc}
 use Rattle.code.specs.declared.refusal.Section.TheVariants.{Group, Transform, Coset}
 use Rattle.code.specs.Limits.{max_rows}
-use Rattle.card.specs.Cards.{rows_of, max_section_rows}
+use Rattle.card.specs.Cards.{max_section_rows}
 use Rattle.card.specs.Rows.{Within}
 use Rattle.card.specs.Tables.{card_of}
 use Rattle.coset_layer.specs.Pile.{layer_rows}
 use Rattle.coset_layer.specs.Piles.{last_within}
-use Rattle.coset_layer.proofs.on_card.Given as given
 use Rattle.coset_layer.proofs.on_card.Goals as goal
 
 pub returns : goal.returns
@@ -20,14 +19,14 @@ returns g c =
     let b = law.few Transform in
     let d = law.few Coset in
     record {
-      below = c.two-layers.ensures.below;
-      lower = c.two-layers.ensures.lower ∙ ap (take layer_rows) is;
-      upper = c.two-layers.ensures.upper ∙ ap (λ (l : List ℕ). take layer_rows (drop layer_rows l)) is;
+      below = c.two_layers.ensures.below;
+      lower = c.two_layers.ensures.lower ∙ ap (take layer_rows) is;
+      upper = c.two_layers.ensures.upper ∙ ap (λ (l : List ℕ). take layer_rows (drop layer_rows l)) is;
       rows = λ span rows.
           let l = ap length rows ∙ length-append k.group k.transform in
           let few : length c.args.coset.now ≤ max_section_rows = omega arith in
           let room : length (g.F.Finder.rows c.args.below) + length c.args.coset.now ≤ max_rows = omega arith in
           let whole : Within k.len k.coset = last_within k.len k.transform k.coset (last_within k.len k.group (k.transform ++ k.coset) law.within) in
-          c.two-layers.ensures.rows few room (subst (λ (n : ℕ). Within n c.args.coset.now) (sym span) (subst (λ (r : List ℕ). Within k.len r) (sym is) whole))
+          c.two_layers.ensures.rows few room (subst (λ (n : ℕ). Within n c.args.coset.now) (sym span) (subst (λ (r : List ℕ). Within k.len r) (sym is) whole))
           ∙ ap₂ (λ (p q : List ℕ). p ++ q) rows is ∙ append_assoc k.group k.transform k.coset;
     }

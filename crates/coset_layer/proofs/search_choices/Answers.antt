@@ -1,4 +1,4 @@
-use Rattle.std.proofs.Common.{◌≡◌, ℕ, ◌+◌, ◌*◌, ◌%◌, ◌^◌, ◌<◌, ◌≤◌, List, ◌++◌, map, length, drop, ℤ, sym, refl, ap, ◌∙◌, subst, arith, rules}
+use Rattle.std.proofs.Common.{◌≡◌, ℕ, ◌+◌, ◌*◌, ◌%◌, ◌^◌, ◌≤◌, List, ◌++◌, map, length, ℤ, sym, refl, ap, ◌∙◌, subst, arith}
 use lib.Signed.{lt_z}
 use Rattle.std.proofs.lemmas.Nat.{one_shl, pow_pos}
 use Rattle.std.proofs.lemmas.List.{length-map}
@@ -8,7 +8,6 @@ use Rattle.finder.proofs.Refusals.{taken_sizes}
 use Rattle.coset_layer.specs.Pile.{cut_to}
 use Rattle.coset_layer.specs.Piles.{codeword-cut}
 use Rattle.coset_layer.proofs.Turns.{first-turn, last_turn, turn-takes, turn-keeps, choice_below, choice_shift, message_below}
-use Rattle.coset_layer.proofs.search_choices.Given as given
 use Rattle.coset_layer.proofs.search_choices.Goals as goal
 
 pub loop-choice-init : goal.loop-choice-init
@@ -20,13 +19,13 @@ loop-choice-init g c =
     let t = first-turn rows own (map r.weight c.args.word.now) (map r.weight c.search.new.word) (ap (map r.weight) h.same) c.in-Ok.found.message (r.weight c.in-Ok.found.reading) h.answer.is_best h.answer.weighs in
     (refl, refl, t.0, t.1)
 
-pub search-negated-answer-requires : goal.search-negated-answer-requires
-search-negated-answer-requires g c =
+pub search_negated-answer-requires : goal.search_negated-answer-requires
+search_negated-answer-requires g c =
     let h = c.in-Ok.ensures in
     taken_sizes g.R.Reading.size _ _ c.args.word.now c.loop-choice.word _ h.answer.taken (c.loop-choice.invariant.0 ∙ h.same)
 
-pub overflow-add-piled : goal.overflow-add-piled
-overflow-add-piled g c =
+pub overflow_add-piled : goal.overflow_add-piled
+overflow_add-piled g c =
     let h = c.in-Ok-answer.ensures in
     let rows = length (g.F.Finder.rows c.args.below.now) in
     let own = length c.args.own.now in
@@ -52,20 +51,20 @@ loop-choice-preserved g c =
     let room : length c.args.own.now + length rows ≤ 24 = (let e = p.count in let q = p.room in omega arith) in
     let l = choice_below ch (length c.args.own.now) p.few c.loop-choice-test.true in
     let s : (ch * 2 ^ c.args.k) % 4294967296 ≡ ch * 2 ^ length rows = ap (λ (k : ℕ). (ch * 2 ^ k) % 4294967296) p.count ∙ choice_shift ch (length c.args.own.now) (length rows) l room in
-    let mask : c.first-digits-mask.result ≡ codeword own ch = c.first-digits-mask.ensures ∙ ap (λ (x : ℕ). x % 2 ^ c.args.n) c.word-of.ensures.value ∙ sym (codeword-cut c.args.n c.args.own.now ch) in
+    let mask : c.first_digits-mask.result ≡ codeword own ch = c.first_digits-mask.ensures ∙ ap (λ (x : ℕ). x % 2 ^ c.args.n) c.word_of.ensures.value ∙ sym (codeword-cut c.args.n c.args.own.now ch) in
     let same = c.loop-choice.invariant.0 in
-    let vs : negated_at (map r.weight c.loop-choice.word) c.first-digits-mask.result ≡ negated_at ws (codeword own ch) =
-    ap (λ (w : List _). negated_at (map r.weight w) c.first-digits-mask.result) same ∙ ap (negated_at ws) mask in
+    let vs : negated_at (map r.weight c.loop-choice.word) c.first_digits-mask.result ≡ negated_at ws (codeword own ch) =
+    ap (λ (w : List _). negated_at (map r.weight w) c.first_digits-mask.result) same ∙ ap (negated_at ws) mask in
     let best = subst (λ (v : List ℤ). Best rows v m) vs a.0 in
     let wy : r.weight y ≡ agrees rows (negated_at ws (codeword own ch)) m = a.1 ∙ ap (λ (v : List ℤ). agrees rows v m) vs in
     let x = r.weight c.loop-choice.best.reading in
     let em : m + (ch * 2 ^ c.args.k) % 4294967296 ≡ m + ch * 2 ^ length rows = ap (λ (k : ℕ). m + k) s in
     let t = picked (λ f. Top (agrees (rows ++ own) ws) ((ch + 1) * 2 ^ length rows) f.message × (r.weight f.reading ≡ agrees (rows ++ own) ws f.message))
-    (lt_z x (r.weight y)) c.loop-choice.best _ c.or-heavier-best.result c.or-heavier-best.ensures
+    (lt_z x (r.weight y)) c.loop-choice.best _ c.or_heavier-best.result c.or_heavier-best.ensures
     (λ e. subst (λ (k : ℕ). Top (agrees (rows ++ own) ws) ((ch + 1) * 2 ^ length rows) k × (r.weight y ≡ agrees (rows ++ own) ws k)) (sym em)
     (turn-takes rows own ws ch m c.loop-choice.best.message x (r.weight y) best wy c.loop-choice.invariant.2 c.loop-choice.invariant.3 e))
     (λ e. turn-keeps rows own ws ch m c.loop-choice.best.message x (r.weight y) best wy c.loop-choice.invariant.2 c.loop-choice.invariant.3 e) in
-    (c.search-negated-answer.ensures.same ∙ same, a.2 ∙ c.loop-choice.invariant.1, t.0, t.1)
+    (c.search_negated-answer.ensures.same ∙ same, a.2 ∙ c.loop-choice.invariant.1, t.0, t.1)
 
 pub returns : goal.returns
 returns g c =

@@ -12,27 +12,27 @@ use Rattle.group_finder.proofs.Whole.{sizes_fit, value-agrees, whole-best}
 use Rattle.group_finder.proofs.search_group.Given as given
 use Rattle.group_finder.proofs.search_group.Goals as goal
 
-pub group-slots-slots-requires : goal.group-slots-slots-requires
-group-slots-slots-requires g c =
-    record { few = (c.requires.few.0, c.requires.few.1, c.choice-count-span.ensures); columns = c.requires.columns; concurs = concurs_at c.args.group.now c.requires.concur }
+pub group_slots-slots-requires : goal.group_slots-slots-requires
+group_slots-slots-requires g c =
+    record { few = (c.requires.few.0, c.requires.few.1, c.choice_count-span.ensures); columns = c.requires.columns; concurs = concurs_at c.args.group.now c.requires.concur }
 
-pub slice-bounds-lists-end : goal.slice-bounds-lists-end
-slice-bounds-lists-end g c =
+pub slice_bounds-lists-end : goal.slice_bounds-lists-end
+slice_bounds-lists-end g c =
     let t = c.in-Ok.ensures.taken in
     let f = (taken_facts c.args.places.places c.args.need (map g.R.Reading.size c.args.word.now) (length c.args.work.now) t).2 in
     let k = c.fold.auto.work in
     omega arith
 
-pub over-choices-requires : goal.over-choices-requires
-over-choices-requires g c =
+pub over_choices-requires : goal.over_choices-requires
+over_choices-requires g c =
     let z = g.R.Reading.size in
     let f1 = c.requires.few.1 in
     let group = c.args.group.now in
     let others = c.args.others.now in
     let k = c.args.need in
     let mid = c.fold.new.work in
-    let span = c.choice-count-span.result in
-    let is = c.choice-count-span.ensures in
+    let span = c.choice_count-span.result in
+    let is = c.choice_count-span.ensures in
     let p = pow_pos (length others) in
     let u : 2 ^ length others ≤ 2 ^ 8 = pow_mono f1 in
     let folded = c.in-Ok.ensures in
@@ -44,8 +44,8 @@ over-choices-requires g c =
     let small : sum_by z (take (k - 0) mid) ≤ sum_limit = (let t = folded.total in let e = ap (λ (j : ℕ). sum_by z (take j mid)) s in omega arith) in
     record {
       few = (c.requires.few.0, omega arith, omega arith);
-      long = c.transform-parts.auto.lists ∙ length-take-le (k - 0) mid (omega arith) ∙ s ∙ room;
-      small = λ t l. sizes_fit g.R.Reading.weight z span (length group) t (take (k - 0) mid) c.transform-parts.new.lists c.transform-parts.ensures l small;
+      long = c.transform_parts.auto.lists ∙ length-take-le (k - 0) mid (omega arith) ∙ s ∙ room;
+      small = λ t l. sizes_fit g.R.Reading.weight z span (length group) t (take (k - 0) mid) c.transform_parts.new.lists c.transform_parts.ensures l small;
     }
 
 pub returns-in-Ok : goal.returns-in-Ok
@@ -59,10 +59,10 @@ returns-in-Ok g c =
     let n = c.args.places.places in
     let k = c.args.need in
     let mid = c.fold.new.work in
-    let final = c.transform-parts.new.lists in
-    let slots = c.group-slots-slots.result in
-    let span = c.choice-count-span.result in
-    let is = c.choice-count-span.ensures in
+    let final = c.transform_parts.new.lists in
+    let slots = c.group_slots-slots.result in
+    let span = c.choice_count-span.result in
+    let is = c.choice_count-span.ensures in
     let folded = c.in-Ok.ensures in
     let facts = taken_facts n k (map z word) (length work) folded.taken in
     let f0 = facts.0 in
@@ -74,15 +74,15 @@ returns-in-Ok g c =
     let list = take (k - 0) mid in
     let ll : length list ≡ k - 0 = length-take-le (k - 0) mid (omega arith) in
     let room : length list ≡ (length group + 2) * span = ll ∙ s ∙ c.requires.room ∙ ap (λ (x : ℕ). (length group + 2) * x) (sym is) in
-    let kinds = λ (i : ℕ) (l : i < length word). c.group-slots-slots.ensures.slots i (omega arith) in
-    let entries = λ (i : ℕ) (l : i < length word). c.group-slots-slots.ensures.entries i (omega arith) in
+    let kinds = λ (i : ℕ) (l : i < length word). c.group_slots-slots.ensures.slots i (omega arith) in
+    let entries = λ (i : ℕ) (l : i < length word). c.group_slots-slots.ensures.entries i (omega arith) in
     let sums = λ (x : ℕ) (l : x < length list). at_take w (pos 0) (k - 0) mid x (omega arith) ∙ folded.sums x (omega arith) ∙ ap (λ (j : ℕ). sum_of_slot (λ i. get_or slots i 0) (weight_at w word) j x) lw in
-    let done = c.transform-parts.ensures in
-    let m = c.over-choices.result.message in
-    let top = c.over-choices.ensures.top in
+    let done = c.transform_parts.ensures in
+    let m = c.over_choices.result.message in
+    let top = c.over_choices.ensures.top in
     record {
       taken = folded.taken;
       is_best = whole-best w z group others slots word list final span is room kinds entries sums done m top;
-      weighs = c.over-choices.ensures.weighs ∙ value-agrees w z group others slots word list final span is room kinds entries sums done m top.within;
-      beyond = drop-append-drop (k - 0) mid final k (omega arith) (c.transform-parts.auto.lists ∙ ll) ∙ folded.beyond;
+      weighs = c.over_choices.ensures.weighs ∙ value-agrees w z group others slots word list final span is room kinds entries sums done m top.within;
+      beyond = drop-append-drop (k - 0) mid final k (omega arith) (c.transform_parts.auto.lists ∙ ll) ∙ folded.beyond;
     }

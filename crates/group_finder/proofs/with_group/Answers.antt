@@ -6,8 +6,8 @@ use Rattle.card.specs.Tables.{card_of}
 use Rattle.group_finder.proofs.with_group.Given as given
 use Rattle.group_finder.proofs.with_group.Goals as goal
 
-pub invariant-of-result : goal.invariant-of-result
-invariant-of-result c =
+pub invariant_of-result : goal.invariant_of-result
+invariant_of-result c =
     let k = card_of c.args.card.now.table in
     let rows = take c.args.plain.count c.args.plain.rows in
     let l = ap length c.requires.rows ∙ length-append k.group k.transform in
@@ -15,4 +15,4 @@ invariant-of-result c =
     let a = c.requires.lawful.few Group in
     let b = c.requires.lawful.few Transform in
     let front : take c.args.group rows ≡ k.group = ap (take c.args.group) c.requires.rows ∙ take_at k.group k.transform c.args.group (sym e) in
-    ((omega arith, omega arith, omega arith), (subst Concur (sym front) c.requires.lawful.concurring, tt))
+    record { few = (omega arith, omega arith, omega arith); concur = subst Concur (sym front) c.requires.lawful.concurring }

@@ -1,5 +1,4 @@
-use Rattle.std.proofs.Common.{◌≡◌, ◌+◌, ◌<◌, ◌≤◌, length, pos, ◌+ℤ◌, neg_ℤ, sym, ap, ◌∙◌, ap₂, arith, rules}
-use Rattle.hadamard.specs.Transform.{weight_at, size_at}
+use Rattle.std.proofs.Common.{◌+◌, pos, ◌+ℤ◌, neg_ℤ, sym, ◌∙◌, ap₂, arith}
 use Rattle.hadamard.proofs.Butterflies.{cross-step}
 use Rattle.hadamard.proofs.Entries.{two_le_at, read_at}
 use Rattle.hadamard.proofs.cross.Goals as goal

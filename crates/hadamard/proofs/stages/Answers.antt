@@ -1,8 +1,7 @@
-use Rattle.std.proofs.Common.{◌≡◌, ℕ, ◌+◌, ◌-◌, ◌*◌, ◌/◌, ◌^◌, ◌<◌, ◌≤◌, length, sum_by, sym, refl, ap, ◌∙◌, subst, mul_assoc, mul-le-mul_left, arith, pow_pos}
+use Rattle.std.proofs.Common.{◌≡◌, ℕ, ◌+◌, ◌-◌, ◌*◌, ◌/◌, ◌^◌, ◌≤◌, length, sum_by, sym, ap, ◌∙◌, subst, mul_assoc, mul-le-mul_left, arith, pow_pos}
 use Rattle.hadamard.specs.Stages.{Blocked, block}
 use Rattle.hadamard.proofs.Powers.{halved}
 use Rattle.hadamard.proofs.Blocks.{stride, blocked_start, blocked-end}
-use Rattle.hadamard.proofs.stages.Given as given
 use Rattle.hadamard.proofs.stages.Goals as goal
 
 pub loop-init : goal.loop-init

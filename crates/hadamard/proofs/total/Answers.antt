@@ -1,4 +1,4 @@
-use Rattle.std.proofs.Common.{sum_by, sym, ap, ◌∙◌, arith, take_all, rules}
+use Rattle.std.proofs.Common.{sum_by, ap, ◌∙◌, arith, take_all}
 use Rattle.std.proofs.lemmas.List.Sums.{sum_by_more}
 use Rattle.hadamard.proofs.total.Goals as goal
 

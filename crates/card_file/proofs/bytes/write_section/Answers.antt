@@ -1,6 +1,6 @@
-use Rattle.std.proofs.Common.{◌≡◌, ℕ, ◌+◌, ◌*◌, ◌<◌, ◌≤◌, List, [], ◌∷◌, ◌++◌, length, get_or, take, drop, set, sym, ap, ◌∙◌, ap₂, append_assoc, arith, length-set, rules}
+use Rattle.std.proofs.Common.{◌≡◌, ℕ, ◌+◌, ◌<◌, ◌≤◌, List, [], ◌∷◌, ◌++◌, length, get_or, take, drop, set, sym, ap, ◌∙◌, ap₂, append_assoc, arith, length-set}
 use Rattle.std.proofs.lemmas.List.{take-append-drop, take_more, take_all, take_more_set, drop-set-lt, length-take-le}
-use Rattle.card_file.specs.Files.{rows_bytes, row_bytes}
+use Rattle.card_file.specs.Files.{rows_bytes}
 use Rattle.card_file.proofs.FileBytes.{bytes_push, bytes_length, written_more}
 use Rattle.card_file.proofs.bytes.write_section.Goals as goal
 
@@ -22,7 +22,7 @@ loop-row-preserved c =
     let l_e : at + 1 ≤ length E = omega (arith, length-set c.args.out.now at (length rows), c.requires.room) in
     let l_b : at + 1 + length B ≡ p = omega (arith, bytes_length (take i rows), length-take-le i rows (omega arith), ep) in (
       omega (arith, ep),
-      c.write-row.ensures
+      c.write_row.ensures
           ∙ written_more E B c.loop-row.out (at + 1) p r l_e l_b eo
           ∙ ap (λ (l : List ℕ). take (at + 1) E ++ (l ++ drop (p + 8) E)) (sym (ap rows_bytes (take_more rows i 0 lt) ∙ bytes_push (take i rows) r)),
     )

@@ -7,4 +7,4 @@ invariant-loop-done g l =
     let shown = g.C.TakesRows.shown in
     let part = g.C.TakesRows.part in
     (l.end ≤ length l.bytes)
-    × (read_rows_lem part (l.count - l.-done) (shown l.card) (drop l.end l.bytes) ≡ read_rows_lem part l.count (shown l.initial.card) (drop l.at l.bytes))
+    × (read_rows_lem part (l.count - l._done) (shown l.card) (drop l.end l.bytes) ≡ read_rows_lem part l.count (shown l.initial.card) (drop l.at l.bytes))

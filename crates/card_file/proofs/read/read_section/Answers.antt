@@ -1,4 +1,4 @@
-use Rattle.std.proofs.Common.{◌≡◌, ℕ, ◌+◌, ◌<◌, Bool, cond, List, length, get_or, drop, Err, Result, sym, ap, ◌∙◌, arith}
+use Rattle.std.proofs.Common.{◌+◌, ◌<◌, Bool, cond, length, get_or, drop, Err, Result, sym, ap, ◌∙◌, arith}
 use Rattle.std.proofs.lemmas.List.{drop_all, drop_more}
 use Rattle.std.proofs.lemmas.Bool.{le-leb, lt-leb}
 use Rattle.code.specs.declared.refusal.Section.{Section}
@@ -13,8 +13,8 @@ returns-then-at-bytes g c = record {
   end = tt;
 }
 
-pub returns-then-count-gt-MAX-COUNT : goal.returns-then-count-gt-MAX-COUNT
-returns-then-count-gt-MAX-COUNT g c =
+pub returns-then-count-gt-MAX_COUNT : goal.returns-then-count-gt-MAX_COUNT
+returns-then-count-gt-MAX_COUNT g c =
     let bytes = c.args.bytes.now in
     let at = c.args.at in
     let n = get_or bytes at 0 in
@@ -37,7 +37,7 @@ returns g c =
     let k = g.C.TakesRows.shown c.args.card.now in
     let s = g.C.TakesRows.part in
     record {
-      read = c.read-rows.ensures.read
+      read = c.read_rows.ensures.read
           ∙ sym (ap (read_section_lem s k) (drop_more bytes at 0 lt) ∙ ap (λ (b : Bool). cond b (read_rows_lem s n k (drop (at + 1) bytes)) (Err (SectionFull s))) (le-leb n 8 (omega arith)));
-      end = c.read-rows.ensures.end;
+      end = c.read_rows.ensures.end;
     }

@@ -1,4 +1,4 @@
-use Rattle.std.proofs.Common.{◌≡◌, List, length, Ok, Err, Result, sym, ap, ◌∙◌}
+use Rattle.std.proofs.Common.{◌≡◌, length, Ok, Err, Result, sym, ap}
 use Rattle.std.specs.Result.{result_ok}
 use Rattle.code.specs.declared.refusal.Refusal.{Refusal}
 use Rattle.card.specs.Cards.{Card}

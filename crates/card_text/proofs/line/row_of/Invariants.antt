@@ -1,4 +1,4 @@
-use Rattle.std.proofs.Common.{◌≡◌, ◌-◌, ◌^◌, ◌<◌, length, drop}
+use Rattle.std.proofs.Common.{◌≡◌, drop}
 use Rattle.card_text.specs.Lines.{row_of}
 use Rattle.card_text.proofs.line.row_of.Given as goal
 

@@ -1,5 +1,4 @@
-use Rattle.std.proofs.Common.{◌≡◌, ◌-◌, Bool, cond, length, get_or, take, sym, ap, ◌∙◌}
-use Rattle.std.proofs.lemmas.Bool.{ne_eqb}
+use Rattle.std.proofs.Common.{sym}
 use Rattle.card_text.proofs.Steps.{no_return, empty_trimmed}
 use Rattle.card_text.proofs.line.without_return.Goals as goal
 use Rattle.card_text.proofs.line.without_return.Goals.{else-len-gt0-via-then-len-gt0+else-line-len-eq-RETURN, else-len-gt0-via-else-len-gt0}

@@ -1,4 +1,4 @@
-use Rattle.std.proofs.Common.{◌≡◌, ◌+◌, sym, ◌∙◌, arith}
+use Rattle.std.proofs.Common.{arith}
 use Rattle.card_text.proofs.Steps.{word_here, word_more, word_end}
 use Rattle.card_text.proofs.line.word_length.Goals as goal
 

@@ -7,13 +7,13 @@ use Rattle.card_text.specs.Drafts.{read_text_lem, stage_of}
 use Rattle.card_text.proofs.Readings.{left_more, left_break, left_fault, last-fault, last_done}
 use Rattle.card_text.proofs.Said.{text_says-read}
 use Rattle.card_text.proofs.read.read_lines.Goals as goal
-use Rattle.card_text.proofs.read.read_lines.Goals.{then-byte-eq-NEWLINE+in-ok-draft, else-byte-eq-NEWLINE}
+use Rattle.card_text.proofs.read.read_lines.Goals.{then-byte-eq-NEWLINE+in_ok-draft, else-byte-eq-NEWLINE}
 
-pub returns-in-err-draft : goal.returns-in-err-draft
-returns-in-err-draft c =
+pub returns-in_err-draft : goal.returns-in_err-draft
+returns-in_err-draft c =
     let bytes = c.args.bytes.now in
-    let p = err_from_is_err_and c.from-residual.result c.from-residual.ensures.1 in
-    rw (p.1, p.2) (record { says = tt; answer = left_fault bytes c.loop-i.i c.loop-i.start c.loop-i.line (stage_of c.loop-i.draft) c.in-err-draft.field-0.0 (read_text_lem bytes) (omega arith) c.if-byte-eq-NEWLINE.true c.in-err-draft.ensures c.loop-i.invariant })
+    let p = err_from_is_err_and c.from_residual.result c.from_residual.ensures.1 in
+    rw (p.1, p.2) (record { says = tt; answer = left_fault bytes c.loop-i.i c.loop-i.start c.loop-i.line (stage_of c.loop-i.draft) c.in_err-draft.field-0.0 (read_text_lem bytes) (omega arith) c.if-byte-eq-NEWLINE.true c.in_err-draft.ensures c.loop-i.invariant })
 
 pub loop-i-preserved : goal.loop-i-preserved
 loop-i-preserved c =
@@ -23,17 +23,17 @@ loop-i-preserved c =
     let n = c.loop-i.line in
     let d = stage_of c.loop-i.draft in
     elim c.if-byte-eq-NEWLINE.branch [
-      | then-byte-eq-NEWLINE+in-ok-draft w ↦
-          rw (w.draft-is, w.start-is, w.line_is) (left_break bytes i s n d (stage_of w.in-ok-draft.draft) (read_text_lem bytes) (omega arith) w.if-byte-eq-NEWLINE.true w.in-ok-draft.ensures c.loop-i.invariant)
+      | then-byte-eq-NEWLINE+in_ok-draft w ↦
+          rw (w.draft-is, w.start-is, w.line-is) (left_break bytes i s n d (stage_of w.in_ok-draft.draft) (read_text_lem bytes) (omega arith) w.if-byte-eq-NEWLINE.true w.in_ok-draft.ensures c.loop-i.invariant)
       | else-byte-eq-NEWLINE w ↦
-          rw (w.draft-is, w.start-is, w.line_is) (left_more bytes i s n d (read_text_lem bytes) (omega arith) w.if-byte-eq-NEWLINE.false c.loop-i.invariant)
+          rw (w.draft-is, w.start-is, w.line-is) (left_more bytes i s n d (read_text_lem bytes) (omega arith) w.if-byte-eq-NEWLINE.false c.loop-i.invariant)
     ]
 
-pub returns-in-err-last : goal.returns-in-err-last
-returns-in-err-last c =
+pub returns-in_err-last : goal.returns-in_err-last
+returns-in_err-last c =
     let bytes = c.args.bytes.now in
-    let p = err_from_is_err_and c.from-residual-in-err-last.result c.from-residual-in-err-last.ensures.1 in
-    rw (p.1, p.2) (record { says = tt; answer = last-fault bytes c.loop-i.i c.loop-i.start c.loop-i.line (stage_of c.loop-i.draft) (read_text_lem bytes) (omega arith) c.loop-i.invariant c.in-err-last.field-0.0 c.in-err-last.ensures })
+    let p = err_from_is_err_and c.from_residual-in_err-last.result c.from_residual-in_err-last.ensures.1 in
+    rw (p.1, p.2) (record { says = tt; answer = last-fault bytes c.loop-i.i c.loop-i.start c.loop-i.line (stage_of c.loop-i.draft) (read_text_lem bytes) (omega arith) c.loop-i.invariant c.in_err-last.field-0.0 c.in_err-last.ensures })
 
 pub returns-in-Ok : goal.returns-in-Ok
 returns-in-Ok c =
@@ -41,7 +41,7 @@ returns-in-Ok c =
     let k = card_of c.in-Ok.card.table in
     let is : ◌≡◌ {A = Result Card TextFault} (Ok k) (read_text_lem bytes) =
     last_done bytes c.loop-i.i c.loop-i.start c.loop-i.line (stage_of c.loop-i.draft) (read_text_lem bytes) (omega arith) c.loop-i.invariant
-    (stage_of c.in-ok-last.last) (Ok k) c.in-ok-last.ensures c.in-Ok.ensures in
+    (stage_of c.in_ok-last.last) (Ok k) c.in_ok-last.ensures c.in-Ok.ensures in
     record { answer = is; says = text_says-read bytes k (sym is) }
 
 pub returns-in-Err : goal.returns-in-Err
@@ -49,6 +49,6 @@ returns-in-Err c =
     let bytes = c.args.bytes.now in
     record {
       answer = last_done bytes c.loop-i.i c.loop-i.start c.loop-i.line (stage_of c.loop-i.draft) (read_text_lem bytes) (omega arith) c.loop-i.invariant
-          (stage_of c.in-ok-last.last) (Err c.in-Err.problem) c.in-ok-last.ensures c.in-Err.ensures;
+          (stage_of c.in_ok-last.last) (Err c.in-Err.problem) c.in_ok-last.ensures c.in-Err.ensures;
       says = tt;
     }

@@ -11,6 +11,6 @@ returns c =
     let e : at + n - at ≡ n = omega arith in
     record {
       end = refl;
-      bytes = ap₂ (λ (ys : List ℕ) (k : ℕ). take at old ++ (ys ++ drop k (drop at old))) c.copy-from-slice.ensures.after e
+      bytes = ap₂ (λ (ys : List ℕ) (k : ℕ). take at old ++ (ys ++ drop k (drop at old))) c.copy_from_slice.ensures.after e
           ∙ ap (λ (l : List ℕ). take at old ++ (bytes ++ l)) (drop-drop n at old);
     }

@@ -1,4 +1,4 @@
-use Rattle.std.proofs.Common.{◌≡◌, ℕ, ◌+◌, ◌-◌, ◌/◌, ◌%◌, ◌<◌, ◌≤◌, List, length, set, sym, refl, ap, ◌∙◌, subst, arith}
+use Rattle.std.proofs.Common.{◌≡◌, ℕ, ◌+◌, ◌-◌, ◌/◌, ◌%◌, ◌≤◌, length, set, ap, subst, arith}
 use Rattle.card_text.specs.Texts.{digits_of, over}
 use Rattle.card_text.proofs.Writings.{DigitsLeft, digits_length, digits_step, digits_done}
 use Rattle.card_text.proofs.write.write_digits.Goals as goal
@@ -18,7 +18,7 @@ bounds-out-end c = omega (arith, c.loop-place.invariant.ends, c.requires, digits
 pub loop-place-preserved : goal.loop-place-preserved
 loop-place-preserved c =
     let n = c.args.places in
-    let i = c.loop-place.-place in
+    let i = c.loop-place._place in
     let at = c.args.at in
     let done = over at (digits_of n c.args.row) c.args.out.now in
     let less : n - i - 1 ≡ n - (i + 1) = omega arith in
@@ -29,11 +29,11 @@ loop-place-preserved c =
 pub returns : goal.returns
 returns c =
     let n = c.args.places in
-    let i = c.loop-place.-place in
+    let i = c.loop-place._place in
     let at = c.args.at in
     let done = over at (digits_of n c.args.row) c.args.out.now in
     let (e, o) = digits_done (n - i) c.loop-place.rest c.loop-place.end (at + n) c.loop-place.out done (omega arith) c.loop-place.invariant in
     record { end = omega (arith, e, digits_length n c.args.row); bytes = o }
 
-pub overflow-add-end : goal.overflow-add-end
-overflow-add-end c = omega (arith, c.loop-place.invariant.ends, c.requires, digits_length c.args.places c.args.row)
+pub overflow_add-end : goal.overflow_add-end
+overflow_add-end c = omega (arith, c.loop-place.invariant.ends, c.requires, digits_length c.args.places c.args.row)

@@ -5,4 +5,4 @@ use Rattle.card_text.proofs.write.write_digits.Given as goal
 
 abbrev pub invariant-loop-place : goal.invariant-loop-place
 invariant-loop-place l =
-    DigitsLeft (l.places - l.-place) l.rest l.end (l.at + l.places) l.out (over l.at (digits_of l.places l.row) l.initial.out)
+    DigitsLeft (l.places - l._place) l.rest l.end (l.at + l.places) l.out (over l.at (digits_of l.places l.row) l.initial.out)

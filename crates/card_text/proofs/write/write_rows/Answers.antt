@@ -1,11 +1,11 @@
-use Rattle.std.proofs.Common.{◌≡◌, ℕ, ◌+◌, ◌<◌, ◌≤◌, List, length, drop, ap, ◌∙◌, arith}
+use Rattle.std.proofs.Common.{◌+◌, length, drop, arith}
 use Rattle.std.proofs.lemmas.List.{drop_all}
 use Rattle.card_text.specs.Texts.{over, section_text}
 use Rattle.card_text.proofs.Writings.{rows_room, rows_step, rows_done}
 use Rattle.card_text.proofs.write.write_rows.Goals as goal
 
-pub write-row-end-requires : goal.write-row-end-requires
-write-row-end-requires c =
+pub write_row-end-requires : goal.write_row-end-requires
+write_row-end-requires c =
     let rows = c.args.rows.now in
     let text = section_text c.args.section c.args.places rows in
     omega (
@@ -19,8 +19,8 @@ pub loop-row-preserved : goal.loop-row-preserved
 loop-row-preserved c =
     let rows = c.args.rows.now in
     let text = section_text c.args.section c.args.places rows in
-    rows_step c.args.section c.args.places rows c.loop-row.row-index c.loop-row.end c.write-row-end.result (c.args.at + length text) c.loop-row.out c.write-row-end.new.out
-    (over c.args.at text c.args.out.now) c.loop-row-test.true (omega (arith, c.requires)) c.loop-row.invariant c.write-row-end.ensures.end c.write-row-end.ensures.bytes
+    rows_step c.args.section c.args.places rows c.loop-row.row-index c.loop-row.end c.write_row-end.result (c.args.at + length text) c.loop-row.out c.write_row-end.new.out
+    (over c.args.at text c.args.out.now) c.loop-row-test.true (omega (arith, c.requires)) c.loop-row.invariant c.write_row-end.ensures.end c.write_row-end.ensures.bytes
 
 pub returns : goal.returns
 returns c =

@@ -1,4 +1,4 @@
-use Rattle.std.proofs.Common.{◌≡◌, ℕ, ◌+◌, ◌/◌, get_or, drop, sym, ap, ◌∙◌, arith}
+use Rattle.std.proofs.Common.{ℕ, ◌+◌, ◌/◌, drop, sym, ap, ◌∙◌, arith}
 use lib.Bits.{bit_xor}
 use Rattle.code.specs.Words.{codeword}
 use Rattle.code.proofs.Codewords.{codeword-xor, sum-skips, sum-takes, sum_ends}

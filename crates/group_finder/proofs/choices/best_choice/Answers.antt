@@ -42,13 +42,13 @@ returns-then-count-eq0 g c =
       weighs = v ∙ ap (λ (k : ℕ). W 0 +ℤ W (k + 1)) z ∙ sym n.1 ∙ ap (λ (k : ℕ). choice_value W k 0) (sym z);
     }
 
-pub plus-minus-up-requires : goal.plus-minus-up-requires
-plus-minus-up-requires g c =
+pub plus_minus-up-requires : goal.plus_minus-up-requires
+plus_minus-up-requires g c =
     let z = g.R.Reading.size in
     let b = all-is z 0 c.args.lists.now c.args.span c.args.t c.args.count c.requires.few.1 c.requires.long c.index-lists-count.result c.index-lists-count.is in
     let s = c.requires.small in
-    let e = c.by-parity-even.ensures.even_small in
-    let o = c.by-parity-even.ensures.odd_small in
+    let e = c.by_parity-even.ensures.even_small in
+    let o = c.by_parity-even.ensures.odd_small in
     (omega arith, omega arith)
 
 pub add-requires-2 : goal.add-requires-2
@@ -57,10 +57,10 @@ add-requires-2 g c =
     let a = rest-is z 0 c.args.lists.now c.args.span c.args.t c.args.count c.requires.few.1 c.requires.long c.index-lists-t.result c.index-lists-t.is in
     let b = all-is z 0 c.args.lists.now c.args.span c.args.t c.args.count c.requires.few.1 c.requires.long c.index-lists-count.result c.index-lists-count.is in
     let s = c.requires.small in
-    let e = c.by-parity-even.ensures.even_small in
-    let o = c.by-parity-even.ensures.odd_small in
-    let u = c.plus-minus-up.ensures.sum-size in
-    let d = c.plus-minus-up.ensures.difference-size in
+    let e = c.by_parity-even.ensures.even_small in
+    let o = c.by_parity-even.ensures.odd_small in
+    let u = c.plus_minus-up.ensures.sum_size in
+    let d = c.plus_minus-up.ensures.difference_size in
     ⊎_elim (λ h. let x = ap z h.1 in omega arith) (λ h. let x = ap z h.1 in omega arith) c.better-best.ensures
 
 pub returns : goal.returns
@@ -75,9 +75,9 @@ returns g c =
     let e0 : 0 * span + t ≡ t = omega arith in
     let a = ap (weight_at w lists) e0 ∙ rest-is w (pos 0) lists span t c.args.count c.requires.few.1 c.requires.long c.index-lists-t.result c.index-lists-t.is in
     let b = all-is w (pos 0) lists span t c.args.count c.requires.few.1 c.requires.long all c.index-lists-count.is in
-    let p = c.by-parity-even.result in
-    let r = settled w z W (λ i. size_at z lists ((i + 1) * span + t)) c.args.count p.0.message p.0.reading p.1.message p.1.reading c.by-parity-even.ensures
-    c.plus-minus-up.result.0 c.plus-minus-up.result.1 c.better-best.result.reading c.add-2.result c.better-best.result.message
-    (c.plus-minus-up.ensures.sum ∙ ap (λ x. w p.0.reading +ℤ x) (sym b)) (c.plus-minus-up.ensures.difference ∙ ap (λ x. w p.1.reading +ℤ neg_ℤ x) (sym b)) c.better-best.ensures
+    let p = c.by_parity-even.result in
+    let r = settled w z W (λ i. size_at z lists ((i + 1) * span + t)) c.args.count p.0.message p.0.reading p.1.message p.1.reading c.by_parity-even.ensures
+    c.plus_minus-up.result.0 c.plus_minus-up.result.1 c.better-best.result.reading c.add-2.result c.better-best.result.message
+    (c.plus_minus-up.ensures.sum ∙ ap (λ x. w p.0.reading +ℤ x) (sym b)) (c.plus_minus-up.ensures.difference ∙ ap (λ x. w p.1.reading +ℤ neg_ℤ x) (sym b)) c.better-best.ensures
     (c.add-2.ensures.weighs ∙ ap (λ x. x +ℤ w c.better-best.result.reading) (sym a)) in
     record { top = r.0; weighs = r.1 }

@@ -45,13 +45,13 @@ returns-then-count-eq0 g c =
       weighs = v ∙ ap (λ (k : ℕ). W 0 +ℤ W (k + 1)) z ∙ sym n.1 ∙ ap (λ (k : ℕ). choice_value W k 0) (sym z);
     }
 
-pub plus-minus-up-requires : goal.plus-minus-up-requires
-plus-minus-up-requires g c =
+pub plus_minus-up-requires : goal.plus_minus-up-requires
+plus_minus-up-requires g c =
     let z = g.R.Reading.size in
     let b = all-is z 0 c.args.lists.now c.args.span c.args.t c.args.count c.requires.few.1 c.requires.long c.index-lists-count.result c.index-lists-count.is in
     let s = c.requires.small in
-    let e = c.weights-by-parity-even.ensures.best.even_small in
-    let o = c.weights-by-parity-even.ensures.best.odd_small in
+    let e = c.weights_by_parity-even.ensures.best.even_small in
+    let o = c.weights_by_parity-even.ensures.best.odd_small in
     (omega arith, omega arith)
 
 pub add-requires-2 : goal.add-requires-2
@@ -60,11 +60,11 @@ add-requires-2 g c =
     let a = rest-is z 0 c.args.lists.now c.args.span c.args.t c.args.count c.requires.few.1 c.requires.long c.index-lists-t.result c.index-lists-t.is in
     let b = all-is z 0 c.args.lists.now c.args.span c.args.t c.args.count c.requires.few.1 c.requires.long c.index-lists-count.result c.index-lists-count.is in
     let s = c.requires.small in
-    let e = c.weights-by-parity-even.ensures.best.even_small in
-    let o = c.weights-by-parity-even.ensures.best.odd_small in
-    let u = c.plus-minus-up.ensures.sum-size in
-    let d = c.plus-minus-up.ensures.difference-size in
-    let h = heavier_small z (lt_z (g.R.Reading.weight c.plus-minus-up.result.0) (g.R.Reading.weight c.plus-minus-up.result.1)) c.plus-minus-up.result.0 c.plus-minus-up.result.1 c.heavier.result c.heavier.ensures in
+    let e = c.weights_by_parity-even.ensures.best.even_small in
+    let o = c.weights_by_parity-even.ensures.best.odd_small in
+    let u = c.plus_minus-up.ensures.sum_size in
+    let d = c.plus_minus-up.ensures.difference_size in
+    let h = heavier_small z (lt_z (g.R.Reading.weight c.plus_minus-up.result.0) (g.R.Reading.weight c.plus_minus-up.result.1)) c.plus_minus-up.result.0 c.plus_minus-up.result.1 c.heavier.result c.heavier.ensures in
     omega arith
 
 pub returns : goal.returns
@@ -79,9 +79,9 @@ returns g c =
     let e0 : 0 * span + t ≡ t = omega arith in
     let a = ap (weight_at w lists) e0 ∙ rest-is w (pos 0) lists span t c.args.count c.requires.few.1 c.requires.long c.index-lists-t.result c.index-lists-t.is in
     let b = all-is w (pos 0) lists span t c.args.count c.requires.few.1 c.requires.long all c.index-lists-count.is in
-    let p = c.weights-by-parity-even.result in
-    let v = c.weights-by-parity-even.ensures in
+    let p = c.weights_by_parity-even.result in
+    let v = c.weights_by_parity-even.ensures in
     settled-weight w z W (λ i. size_at z lists ((i + 1) * span + t)) c.args.count v.even_choice p.0 v.odd_choice p.1 v.best
-    c.plus-minus-up.result.0 c.plus-minus-up.result.1 c.add-2.result
-    (c.plus-minus-up.ensures.sum ∙ ap (λ x. w p.0 +ℤ x) (sym b)) (c.plus-minus-up.ensures.difference ∙ ap (λ x. w p.1 +ℤ neg_ℤ x) (sym b))
+    c.plus_minus-up.result.0 c.plus_minus-up.result.1 c.add-2.result
+    (c.plus_minus-up.ensures.sum ∙ ap (λ x. w p.0 +ℤ x) (sym b)) (c.plus_minus-up.ensures.difference ∙ ap (λ x. w p.1 +ℤ neg_ℤ x) (sym b))
     c.heavier.result c.heavier.ensures (c.add-2.ensures.weighs ∙ ap (λ x. x +ℤ w c.heavier.result) (sym a))

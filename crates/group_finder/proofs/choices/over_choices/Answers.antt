@@ -8,11 +8,11 @@ use Rattle.group_finder.proofs.choices.over_choices.Goals as goal
 pub loop-t-init : goal.loop-t-init
 loop-t-init g c =
     let f = weight_at g.R.Reading.weight c.args.lists.now in
-    let r = over_first f c.args.span c.args.count c.best-choice-best.result.message c.best-choice-best.ensures.top in
-    (r.0, c.best-choice-best.ensures.weighs ∙ r.1)
+    let r = over_first f c.args.span c.args.count c.best_choice-best.result.message c.best_choice-best.ensures.top in
+    (r.0, c.best_choice-best.ensures.weighs ∙ r.1)
 
 pub loop-t-preserved : goal.loop-t-preserved
-loop-t-preserved g c = c.or-better-at-best.ensures c.loop-t.invariant
+loop-t-preserved g c = c.or_better_at-best.ensures c.loop-t.invariant
 
 pub returns : goal.returns
 returns g c =

@@ -46,8 +46,8 @@ loop-j-init g c =
     (ap w n ∙ g.met.R.Reading.negation.negates x small ∙ ap neg_ℤ (sym wx)) (sym zx) (ap z n ∙ g.met.R.Reading.negation.sized x small ∙ sym zx) in
     record { even_choice = 0; odd_choice = 1; best = first }
 
-pub extend-weight-next-requires : goal.extend-weight-next-requires
-extend-weight-next-requires g c =
+pub extend_weight-next-requires : goal.extend_weight-next-requires
+extend_weight-next-requires g c =
     let w = g.R.Reading.weight in
     let z = g.R.Reading.size in
     let span = c.args.span in
@@ -63,8 +63,8 @@ extend-weight-next-requires g c =
     let zx = read_at z lists ((j + 1) * span + t) x 0 lt c.index-lists-j.is in
     parity-room w z (λ i. weight_at w lists ((i + 1) * span + t)) (λ i. size_at z lists ((i + 1) * span + t)) j x (sym wx) (sym zx) (2 ^ j) refl c.args.count _ _ _ _ c.loop-j.invariant.best c.loop-j-test.true c.requires.small
 
-pub extend-weight-odd-requires : goal.extend-weight-odd-requires
-extend-weight-odd-requires g c =
+pub extend_weight-odd-requires : goal.extend_weight-odd-requires
+extend_weight-odd-requires g c =
     let w = g.R.Reading.weight in
     let z = g.R.Reading.size in
     let span = c.args.span in
@@ -97,13 +97,13 @@ loop-j-preserved g c =
     let wx = read_at w lists ((j + 1) * span + t) x (pos 0) lt c.index-lists-j.is in
     let zx = read_at z lists ((j + 1) * span + t) x 0 lt c.index-lists-j.is in
     let inv = c.loop-j.invariant in
-    let e = c.extend-weight-next.ensures inv.even_choice inv.odd_choice (2 ^ j) in
-    let o = c.extend-weight-odd.ensures inv.odd_choice inv.even_choice (2 ^ j) in
+    let e = c.extend_weight-next.ensures inv.even_choice inv.odd_choice (2 ^ j) in
+    let o = c.extend_weight-odd.ensures inv.odd_choice inv.even_choice (2 ^ j) in
     record {
       even_choice = e.0;
       odd_choice = o.0;
       best = parity-step w z (λ i. weight_at w lists ((i + 1) * span + t)) (λ i. size_at z lists ((i + 1) * span + t)) j x (sym wx) (sym zx) (2 ^ j) refl
-          inv.even_choice c.loop-j.even inv.odd_choice c.loop-j.odd inv.best e.0 c.extend-weight-next.result o.0 c.extend-weight-odd.result e.1 o.1;
+          inv.even_choice c.loop-j.even inv.odd_choice c.loop-j.odd inv.best e.0 c.extend_weight-next.result o.0 c.extend_weight-odd.result e.1 o.1;
     }
 
 pub returns : goal.returns

@@ -28,16 +28,16 @@ module _ (group others : List ℕ) (count i c : ℕ) (few : length group ≤ 8) 
 low_column : (span : ℕ) (others : List ℕ) (i : ℕ) → span ≡ 2 ^ length others → column others i < span
 low_column span others i e = let b = column_below others i in omega arith
 
-pub slot-of-slot-requires : goal.slot-of-slot-requires
-slot-of-slot-requires c =
+pub slot_of-slot-requires : goal.slot_of-slot-requires
+slot_of-slot-requires c =
     let group = c.args.group.now in
     let i = c.loop-i.i in
     let within : i < c.args.places.places = (let p = c.places-i-end.ensures.value in omega arith) in
     (c.requires.few.0, subst (λ (x : ℕ). Concurs (length group) x) (sym (low group c.args.others.now (length group) i (get_or c.args.columns.now i 0) c.requires.few.0 c.requires.few.1 refl (c.requires.columns i within))) (c.requires.concurs i))
 
-pub overflow-add-slots : goal.overflow-add-slots
-overflow-add-slots c =
-    let q = c.slot-of-slot.result in
+pub overflow_add-slots : goal.overflow_add-slots
+overflow_add-slots c =
+    let q = c.slot_of-slot.result in
     let i = c.loop-i.i in
     let f0 = c.requires.few.0 in
     let f1 = c.requires.few.1 in
@@ -46,7 +46,7 @@ overflow-add-slots c =
     let others = c.args.others.now in
     let within : i < c.args.places.places = (let p = c.places-i-end.ensures.value in omega arith) in
     let e = high group others (length group) i (get_or c.args.columns.now i 0) f0 f1 refl (c.requires.columns i within) in
-    let s = slot_below (length group) _ q c.slot-of-slot.ensures in
+    let s = slot_below (length group) _ q c.slot_of-slot.ensures in
     let lq : q < 10 = omega arith in
     let lc = low_column c.args.span others i f2 in
     let p : 2 ^ length others ≤ 2 ^ 8 = pow_mono f1 in
@@ -58,7 +58,7 @@ loop-i-preserved c =
     let xs = c.loop-i.slots in
     let i = c.loop-i.i in
     let span = c.args.span in
-    let q = c.slot-of-slot.result in
+    let q = c.slot_of-slot.result in
     let group = c.args.group.now in
     let others = c.args.others.now in
     let old = get_or c.args.columns.now i 0 / 2 ^ length group in
@@ -77,7 +77,7 @@ loop-i-preserved c =
       simp length-set long,
       below_more (λ k. Slotted (length group) (column group k) (get_or (set xs i v) k 0 / span)) i
           (λ k h. subst (λ (x : ℕ). Slotted (length group) (column group k) (x / span)) (sym (other k (omega arith))) (c.loop-i.invariant.1 k h))
-          (subst (λ (x : ℕ). Slotted (length group) (column group i) x) (sym part) (subst (λ (x : ℕ). Slotted (length group) x q) g c.slot-of-slot.ensures)),
+          (subst (λ (x : ℕ). Slotted (length group) (column group i) x) (sym part) (subst (λ (x : ℕ). Slotted (length group) x q) g c.slot_of-slot.ensures)),
       below_more (λ k. get_or (set xs i v) k 0 ≡ get_or (set xs i v) k 0 / span * span + column others k) i
           (λ k h. subst (λ (x : ℕ). x ≡ x / span * span + column others k) (sym (other k (omega arith))) (c.loop-i.invariant.2 k h))
           (same ∙ ap₂ (λ (x y : ℕ). x * span + y) (sym part) d),

@@ -7,16 +7,16 @@ use Rattle.finder.specs.PlainRows.{transform_taken}
 use Rattle.group_finder.proofs.Parts.{room, part_same, part-long, part_small, parts-step, parts-rest}
 use Rattle.group_finder.proofs.slots.transform_parts.Goals as goal
 
-pub offset-bounds-lists-from : goal.offset-bounds-lists-from
-offset-bounds-lists-from g c =
+pub offset_bounds-lists-from : goal.offset_bounds-lists-from
+offset_bounds-lists-from g c =
     let r = room g.R.Reading.weight g.R.Reading.size c.args.span c.loop-q.q c.args.count c.args.lists.now c.loop-q.lists c.loop-q.lists (c.loop-q.auto.lists ∙ c.requires.long) c.loop-q-test.true c.loop-q.invariant.1 in
     let l = c.requires.long in
     let h : c.loop-q.q * c.args.span ≤ length c.args.lists.now = omega arith in
     let k : c.loop-q.q * c.args.span ≤ length c.loop-q.lists = (let m = c.loop-q.auto.lists in omega arith) in
     search rules
 
-pub slice-bounds-transform-end : goal.slice-bounds-transform-end
-slice-bounds-transform-end g c =
+pub slice_bounds-transform-end : goal.slice_bounds-transform-end
+slice_bounds-transform-end g c =
     let r = room g.R.Reading.weight g.R.Reading.size c.args.span c.loop-q.q c.args.count c.args.lists.now c.loop-q.lists c.loop-q.lists (c.loop-q.auto.lists ∙ c.requires.long) c.loop-q-test.true c.loop-q.invariant.1 in
     let l = c.loop-q.auto.lists ∙ c.requires.long in
     let h : c.loop-q.q * c.args.span + c.args.span ≤ length c.loop-q.lists = omega arith in

@@ -10,9 +10,9 @@ returns g c =
     let m = g.R.Reading in
     let xs = c.args.self.now.cells.now in
     let nis = c.covering-n.ensures in
-    let l : length c.lay-out.new.cells ≡ c.covering-n.result = c.lay-out.auto.cells ∙ length-take _ xs ∙ omega arith in
-    let f = front-is xs c.lay-out.new.cells c.covering-n.result nis l in
-    let z = subst (AllBlank m.weight m.size) (sym f) c.lay-out.ensures in
+    let l : length c.lay_out.new.cells ≡ c.covering-n.result = c.lay_out.auto.cells ∙ length-take _ xs ∙ omega arith in
+    let f = front-is xs c.lay_out.new.cells c.covering-n.result nis l in
+    let z = subst (AllBlank m.weight m.size) (sym f) c.lay_out.ensures in
     record {
       law = record {
         book = λ h st. (cleared _ _ _ _ h _ _ (length-is xs _ _ nis l) refl z st, tt);

@@ -15,7 +15,7 @@ returns-in-Err g c =
     let ss = c.args.samples.now in
     let f = c.in-Err.ensures in
     let n = c.covering-n.result in
-    let cells = put_back t.cells.now c.add-pass.new.cells n f.1 in
+    let cells = put_back t.cells.now c.add_pass.new.cells n f.1 in
     let fails = subst (λ xs. PassFails m.weight m.size m.MAIN_UNIT m.SECOND_UNIT ss t.passes xs c.in-Err.refusal) (part-is t.cells.now n c.covering-n.ensures) f.0 in
     record {
       law = record {
@@ -33,9 +33,9 @@ returns-in-Ok g c =
     let ss = c.args.samples.now in
     let n = c.covering-n.result in
     let nis = c.covering-n.ensures in
-    let ys = c.add-pass.new.cells in
+    let ys = c.add_pass.new.cells in
     let w = ap length (part-is t.cells.now n nis) ∙ length-take max_places t.cells.now in
-    let l : length ys ≡ n = c.add-pass.auto.cells ∙ w ∙ sym nis in
+    let l : length ys ≡ n = c.add_pass.auto.cells ∙ w ∙ sym nis in
     let p = subst (λ xs. Passed m.weight m.size m.MAIN_UNIT m.SECOND_UNIT ss t.passes xs (take max_places (ys ++ post_of 0 (n - 0) t.cells.now)) c.in-Ok.count) (part-is t.cells.now n nis)
     (subst (λ zs. Passed m.weight m.size m.MAIN_UNIT m.SECOND_UNIT ss t.passes (take (n - 0) t.cells.now) zs c.in-Ok.count) (sym (front-is t.cells.now ys n nis l)) c.in-Ok.ensures) in
     record {

@@ -1,4 +1,4 @@
-use Rattle.std.proofs.Common.{◌≡◌, ℕ, ◌<◌, get_or, sym, refl, ap, ◌∙◌, subst, arith, below_more}
+use Rattle.std.proofs.Common.{get_or, refl, subst, arith, below_more}
 use Rattle.std.proofs.lemmas.List.{get_or_read, get_or_default}
 use Rattle.sheet.specs.Cells.{Fits, Overgrown}
 use Rattle.sheet.proofs.cells.check_sizes.Goals as goal
