@@ -1,5 +1,5 @@
 -- Many words searched by one call.
-use Rattle.std.specs.Prelude.{◌≡◌, ℕ, zero, suc, ◌+◌, ◌*◌, ◌<◌, cond, List, map, length, take, drop, ℤ, pos, Some, None, Ok, Err, Option, Result, ◌==◌, ◌≢◌, slice_index_or}
+use Rattle.std.specs.Prelude.{◌≡◌, ℕ, zero, suc, ◌*◌, ◌<◌, cond, List, map, length, take, drop, ℤ, pos, Some, None, Ok, Err, Option, Result, ◌==◌, ◌≢◌, slice_index_or}
 use Rattle.code.specs.declared.refusal.Refusal.{Refusal}
 use Rattle.code.specs.declared.refusal.Refusal.TheVariants.{WordLengthDiffers}
 use Rattle.code.specs.Refusals.{number_of}
