@@ -2,7 +2,7 @@ use code::refusal::Refusal;
 use std::io;
 
 // Why the cases end early.
-#[derive(Drop)]
+#[derive(Debug, Drop)]
 pub enum Failure {
     Differs,
     Refused { refusal: Refusal },

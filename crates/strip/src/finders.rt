@@ -42,7 +42,7 @@ impl CardFinders {
         request: &Request<Method>,
         work: &mut [R],
     ) -> Answer<R>
-        ensures law { Served weight size MAIN_UNIT SECOND_UNIT (span_by self.now) (rows_by self.now) (need_by self.now) (length work.old) sheet.old sheet.new request.now work.old work.new result }
+        ensures law { Served R.Reading.weight R.Reading.size R.Reading.MAIN_UNIT R.Reading.SECOND_UNIT (span_by self.now) (rows_by self.now) (need_by self.now) (length work.old) sheet.old sheet.new request.now work.old work.new result }
         ensures named { sheet.new.cells.ghost_name ≡ sheet.old.cells.ghost_name }
     {
         match request {
@@ -66,7 +66,7 @@ impl CardFinders {
         answers: &mut [Answer<R>],
     )
         requires { length requests.now ≤ length answers.old }
-        ensures law { (h : List Call) → Stands weight size MAIN_UNIT SECOND_UNIT h sheet.old → Ran weight size MAIN_UNIT SECOND_UNIT (span_by self.now) (rows_by self.now) (need_by self.now) (length work.old) h requests.now (length requests.now) sheet.old sheet.new answers.new }
+        ensures law { (h : List Call) → Stands R.Reading.weight R.Reading.size R.Reading.MAIN_UNIT R.Reading.SECOND_UNIT h sheet.old → Ran R.Reading.weight R.Reading.size R.Reading.MAIN_UNIT R.Reading.SECOND_UNIT (span_by self.now) (rows_by self.now) (need_by self.now) (length work.old) h requests.now (length requests.now) sheet.old sheet.new answers.new }
         ensures kept { Kept sheet.old sheet.new }
         ensures spared { Spared (need_by self.now) requests.now (length requests.now) answers.new work.old work.new }
         ensures rest { drop (length requests.now) answers.new ≡ drop (length requests.now) answers.old }
@@ -89,7 +89,7 @@ pub(crate) fn run_laid_out<R: Reading>(
 ) -> u32
     requires room { length requests.now ≤ length answers.old }
     requires finders { FindersOf (card_of card.now.table) finders.now }
-    ensures { CardRun weight size MAIN_UNIT SECOND_UNIT (card_of card.now.table) requests.now result cells.old cells.new work.old work.new answers.old answers.new }
+    ensures { CardRun R.Reading.weight R.Reading.size R.Reading.MAIN_UNIT R.Reading.SECOND_UNIT (card_of card.now.table) requests.now result cells.old cells.new work.old work.new answers.old answers.new }
 {
     let mut sheet = Sheet::new(cells);
     finders.run(&mut sheet, requests, work, answers);

@@ -36,7 +36,7 @@ pub fn run_card<R: Reading>(
     answers: &mut [Answer<R>],
 ) -> Result<u32, Refusal>
     ensures law { MatchResult result
-        (λ count. CardRun weight size MAIN_UNIT SECOND_UNIT (card_of card.now.table) requests.now count cells.old cells.new work.old work.new answers.old answers.new)
+        (λ count. CardRun R.Reading.weight R.Reading.size R.Reading.MAIN_UNIT R.Reading.SECOND_UNIT (card_of card.now.table) requests.now count cells.old cells.new work.old work.new answers.old answers.new)
         (Short (length requests.now) (length answers.old)) }
     ensures refused { MatchResult result (λ _. length requests.now ≤ length answers.old) (λ _. (cells.new ≡ cells.old) × (work.new ≡ work.old) × (answers.new ≡ answers.old)) }
 {
@@ -55,7 +55,7 @@ fn run_with<R: Reading>(
     answers: &mut [Answer<R>],
 ) -> u32
     requires { length requests.now ≤ length answers.old }
-    ensures { CardRun weight size MAIN_UNIT SECOND_UNIT (card_of card.now.table) requests.now result cells.old cells.new work.old work.new answers.old answers.new }
+    ensures { CardRun R.Reading.weight R.Reading.size R.Reading.MAIN_UNIT R.Reading.SECOND_UNIT (card_of card.now.table) requests.now result cells.old cells.new work.old work.new answers.old answers.new }
 {
     let finders = CardFinders::new(card);
     run_laid_out(card, &finders, cells, requests, work, answers)
@@ -73,7 +73,7 @@ pub fn run_built<R: Reading>(
     answers: &mut [Answer<R>],
 ) -> Result<u32, Refusal>
     ensures law { MatchResult result
-        (λ count. BuiltRun weight size MAIN_UNIT SECOND_UNIT len.places rows.now told.old told.new requests.now count cells.old cells.new work.old work.new answers.old answers.new)
+        (λ count. BuiltRun R.Reading.weight R.Reading.size R.Reading.MAIN_UNIT R.Reading.SECOND_UNIT len.places rows.now told.old told.new requests.now count cells.old cells.new work.old work.new answers.old answers.new)
         (λ e. Short (length requests.now) (length answers.old) e ⊎ Short (length rows.now) (length told.old) e) }
     ensures refused { MatchResult result
         (λ _. (length requests.now ≤ length answers.old) × (length rows.now ≤ length told.old))
@@ -92,7 +92,7 @@ fn build_and_run<R: Reading>(
     answers: &mut [Answer<R>],
 ) -> Result<u32, Refusal>
     ensures law { MatchResult result
-        (λ count. BuiltRun weight size MAIN_UNIT SECOND_UNIT len.places rows.now told.old told.new requests.now count cells.old cells.new work.old work.new answers.old answers.new)
+        (λ count. BuiltRun R.Reading.weight R.Reading.size R.Reading.MAIN_UNIT R.Reading.SECOND_UNIT len.places rows.now told.old told.new requests.now count cells.old cells.new work.old work.new answers.old answers.new)
         (λ e. Short (length requests.now) (length answers.old) e ⊎ Short (length rows.now) (length told.old) e) }
     ensures refused { MatchResult result
         (λ _. (length requests.now ≤ length answers.old) × (length rows.now ≤ length told.old))
@@ -116,7 +116,7 @@ pub fn run_file<R: Reading>(
     answers: &mut [Answer<R>],
 ) -> Result<u32, Refusal>
     ensures law { MatchResult result
-        (λ count. FileRun weight size MAIN_UNIT SECOND_UNIT file.now requests.now count cells.old cells.new work.old work.new answers.old answers.new)
+        (λ count. FileRun R.Reading.weight R.Reading.size R.Reading.MAIN_UNIT R.Reading.SECOND_UNIT file.now requests.now count cells.old cells.new work.old work.new answers.old answers.new)
         (λ e. Short (length requests.now) (length answers.old) e ⊎ ((length requests.now ≤ length answers.old) × (read_card_lem file.now ≡ Err e))) }
     ensures rows { RowsAsAdded file.now }
     ensures refused { MatchResult result (λ _. length requests.now ≤ length answers.old) (λ _. (cells.new ≡ cells.old) × (work.new ≡ work.old) × (answers.new ≡ answers.old)) }
@@ -132,7 +132,7 @@ fn read_and_run<R: Reading>(
     answers: &mut [Answer<R>],
 ) -> Result<u32, Refusal>
     ensures law { MatchResult result
-        (λ count. FileRun weight size MAIN_UNIT SECOND_UNIT file.now requests.now count cells.old cells.new work.old work.new answers.old answers.new)
+        (λ count. FileRun R.Reading.weight R.Reading.size R.Reading.MAIN_UNIT R.Reading.SECOND_UNIT file.now requests.now count cells.old cells.new work.old work.new answers.old answers.new)
         (λ e. Short (length requests.now) (length answers.old) e ⊎ ((length requests.now ≤ length answers.old) × (read_card_lem file.now ≡ Err e))) }
     ensures rows { RowsAsAdded file.now }
     ensures refused { MatchResult result (λ _. length requests.now ≤ length answers.old) (λ _. (cells.new ≡ cells.old) × (work.new ≡ work.old) × (answers.new ≡ answers.old)) }

@@ -1,4 +1,4 @@
-use Rattle.std.proofs.Common.{sym, refl, ◌∙◌, inl, inr}
+use Rattle.std.proofs.Common.{refl, inr}
 use Rattle.strip.proofs.ByFile.{read_gives, read_refuses}
 use Rattle.strip.proofs.read_and_run.Goals as goal
 
@@ -9,7 +9,7 @@ returns-in-Ok g c =
       law = record {
         card = _;
         read = read_gives _ _ _ read.answer read.card;
-        sheet = c.run-with.ensures;
+        sheet = c.run_with.ensures;
       };
       rows = read.rows;
       refused = c.if-answers-requests.false;

@@ -1,18 +1,18 @@
-use Rattle.std.proofs.Common.{◌≡◌, ℕ, ◌+◌, ◌-◌, ◌*◌, ◌≤◌, List, length, take, drop, sym, refl, ap, ◌∙◌, subst, arith, rules}
+use Rattle.std.proofs.Common.{◌≡◌, ℕ, ◌+◌, ◌-◌, ◌*◌, ◌≤◌, List, length, take, drop, sym, ap, ◌∙◌, subst, arith, rules}
 use Rattle.reading.specs.declared.level.Level.{Level}
 use Rattle.ffi.specs.Batch.{WordSearched}
 use Rattle.ffi.proofs.Batches.{one_more, put_same, room}
 use Rattle.ffi.proofs.batch.search_words.Goals as goal
 
-pub offset-bounds-words-from : goal.offset-bounds-words-from
-offset-bounds-words-from g c =
+pub offset_bounds-words-from : goal.offset_bounds-words-from
+offset_bounds-words-from g c =
     let r = room c.loop-j.j (length c.args.answers.now) c.args.n c.loop-j-test.true in
     let l = c.loop-j.auto.words ∙ c.requires.long in
     let h : c.loop-j.j * c.args.n ≤ length c.loop-j.words = omega arith in
     search rules
 
-pub slice-bounds-search-word-end : goal.slice-bounds-search-word-end
-slice-bounds-search-word-end g c =
+pub slice_bounds-search_word-end : goal.slice_bounds-search_word-end
+slice_bounds-search_word-end g c =
     let r = room c.loop-j.j (length c.args.answers.now) c.args.n c.loop-j-test.true in
     let l = c.loop-j.auto.words ∙ c.requires.long in
     let h : c.loop-j.j * c.args.n + c.args.n ≤ length c.loop-j.words = omega arith in
@@ -23,14 +23,14 @@ loop-j-preserved g c =
     let n = c.args.n in
     let j = c.loop-j.j in
     let rows = g.F.Finder.rows c.args.finder.now in
-    let goal = g.F.Finder.need c.args.finder.now in
+    let need = g.F.Finder.need c.args.finder.now in
     let k : j * n + n - j * n ≡ n = omega arith in
     let same = c.loop-j.invariant.0 in
     let mid : take (j * n + n - j * n) (drop (j * n) c.loop-j.words) ≡ take n (drop (j * n) c.args.words.now) = ap (λ (i : ℕ). take i (drop (j * n) c.loop-j.words)) k ∙ ap (λ (w : List Level). take n (drop (j * n) w)) same in
-    let new = subst (λ (s : ℕ). WordSearched s rows goal (take (j * n + n - j * n) (drop (j * n) c.loop-j.words)) c.loop-j.work c.search-word.new.work c.search-word.result) (sym c.requires.span) c.search-word.ensures.searched in
+    let new = subst (λ (s : ℕ). WordSearched s rows need (take (j * n + n - j * n) (drop (j * n) c.loop-j.words)) c.loop-j.work c.search_word.new.work c.search_word.result) (sym c.requires.span) c.search_word.ensures.searched in
     let a = c.loop-j.auto.answers in
     let t = c.loop-j-test.true in (
-      put_same (j * n) (j * n + n - j * n) c.loop-j.words c.search-word.new.word c.search-word.ensures.same ∙ same,
-      one_more j n rows goal c.args.words.now c.args.work.now c.loop-j.work c.search-word.new.work c.loop-j.answers c.search-word.result (omega arith) c.loop-j.auto.work c.loop-j.invariant.1
-          (subst (λ (w : List Level). WordSearched n rows goal w c.loop-j.work c.search-word.new.work c.search-word.result) mid new),
+      put_same (j * n) (j * n + n - j * n) c.loop-j.words c.search_word.new.word c.search_word.ensures.same ∙ same,
+      one_more j n rows need c.args.words.now c.args.work.now c.loop-j.work c.search_word.new.work c.loop-j.answers c.search_word.result (omega arith) c.loop-j.auto.work c.loop-j.invariant.1
+          (subst (λ (w : List Level). WordSearched n rows need w c.loop-j.work c.search_word.new.work c.search_word.result) mid new),
     )

@@ -1,7 +1,7 @@
-use Rattle.std.proofs.Common.{◌≡◌, ◌+◌, ◌<◌, length, drop, sym, refl, ap, ◌∙◌, subst, arith}
+use Rattle.std.proofs.Common.{◌≡◌, ◌+◌, ◌<◌, length, drop, ◌∙◌, subst, arith}
 use Rattle.std.proofs.lemmas.List.{drop-set-lt, get_or_default}
 use Rattle.sheet.specs.Runs.{Ran, Spared}
-use Rattle.sheet.proofs.Runs.{ran-none, ran-more, spared_more, kept_then, drop_further}
+use Rattle.sheet.proofs.Runs.{ran-more, spared_more, kept_then, drop_further}
 use Rattle.strip.specs.Finders.{need_by, rows_by, span_by}
 use Rattle.strip.proofs.finders.CardFinders.run.Goals as goal
 
