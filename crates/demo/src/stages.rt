@@ -1,6 +1,5 @@
-ghost use Rattle.std.specs.Prelude.{◌≡◌, ◌^◌, ◌≤◌, map, MatchOption};
-ghost use Rattle.std.specs.List.{AllByRecursion as All};
-ghost use Rattle.code.specs.Words.{Best};
+ghost use Rattle.std.specs.Prelude.{◌^◌, ◌≤◌};
+ghost use Rattle.std.specs.List.{AllByRecursion};
 
 use crate::show::{show_list, show_message, show_refusal};
 use crate::{PLACES, ROWS};
@@ -46,7 +45,7 @@ fn read<R: Reading>(main: i32, second: i32) -> R
 
 // Five readings of the main head and the second.
 fn play<R: Reading>(main: [i32; 5], second: [i32; 5]) -> [R; 5]
-    ensures { All (λ x. R.Reading.size x ≤ 2 ^ 10) result }
+    ensures { AllByRecursion (λ x. R.Reading.size x ≤ 2 ^ 10) result }
 {
     let [a, b, c, d, e] = main;
     let [p, q, r, s, t] = second;
