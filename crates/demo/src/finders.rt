@@ -4,6 +4,7 @@ use card::states::{FinishedCard, GroupCard};
 use card_finder::{group_finder, plain_finder};
 use code::length::WordLength;
 use code::refusal::Refusal;
+use code::words::word_of;
 use coset_layer::CosetLayer;
 use finder::Finder;
 use finder::plain::PlainFinder;
@@ -11,27 +12,38 @@ use group_finder::GroupFinder;
 use reading::level::Level;
 use std::io;
 
-// The Golay code of 23 places: five words of weight 7 that have three places in common and four each of their own, and seven more rows.
+// The words of the Golay code are the multiples of a polynomial with these exponents; its rows are twelve shifts of it.
+const GOLAY: u64 = (1 << 0) | (1 << 1) | (1 << 5) | (1 << 6) | (1 << 7) | (1 << 9) | (1 << 11);
+
 const GOLAY_PLACES: usize = 23;
 
-const GOLAY_GROUP: [u64; 5] = [99367, 155783, 786519, 2101775, 5245191];
-
-const GOLAY_TRANSFORM: [u64; 7] = [2787, 5574, 11148, 22296, 44592, 356736, 1426944];
+// Messages of those rows whose words have no place in common.
+const GOLAY_GROUP: [u64; 3] = [1, 116, 3072];
 
 // Readings of work memory, enough for every search here.
-const WORK: usize = 4096;
+const WORK: usize = 2048;
 
-// The Golay code as a card.
+// The Golay code as a card: three words without a common place as the group, eight rows, and what is left as coset rows.
 fn golay_card() -> Result<FinishedCard, Refusal> {
+    let mut rows = [0u64; 12];
+    let mut shift = GOLAY;
+    for row in rows.iter_mut() {
+        *row = shift;
+        shift = shift.wrapping_mul(2);
+    }
     let mut group = GroupCard::new(WordLength::new(GOLAY_PLACES)?);
-    for row in GOLAY_GROUP {
-        group.add_row(row)?;
+    for message in GOLAY_GROUP {
+        group.add_row(word_of(&rows, message))?;
     }
     let mut transform = group.close_group();
-    for row in GOLAY_TRANSFORM {
-        transform.add_row(row)?;
+    for row in rows {
+        let _ = transform.add_row(row);
     }
-    Ok(transform.close_transform().finish())
+    let mut coset = transform.close_transform();
+    for row in rows {
+        let _ = coset.add_row(row);
+    }
+    Ok(coset.finish())
 }
 
 // A card of 24 places with a row for each place.
@@ -93,9 +105,6 @@ fn search_all(
     search(rt, "plain finder under coset layers", &plain, word, work)?;
     search(rt, "group finder under coset layers", &group, word, work)?;
     let rest = PlainFinder::new(card).row_count();
-    if rest == rows {
-        return Ok(());
-    }
     println!(rt; "Searched over the first {rest} rows alone, without the coset rows:")?;
     search(rt, "plain finder", &PlainFinder::new(card), word, work)?;
     search(rt, "group finder", &GroupFinder::new(card), word, work)

@@ -2,14 +2,12 @@
 
 mod cards;
 mod finders;
-mod sheets;
 mod show;
 mod stages;
 
 use cards::cards;
 use code::length::WordLength;
 use finders::finders;
-use sheets::sheets;
 use show::show_code;
 use stages::{one_head, refusals, two_heads};
 
@@ -28,9 +26,7 @@ fn run(rt: &HostRuntime) -> anyhow::Result<()> {
         return Ok(());
     };
     let card = cards(rt, length)?;
-    finders(rt, &card)?;
-    sheets(rt, &card)?;
-    Ok(())
+    finders(rt, &card)
 }
 
 fn main(rt: HostRuntime) -> anyhow::Result<()> {

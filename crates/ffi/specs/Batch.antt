@@ -47,9 +47,9 @@ abbrev pub words_number : ℕ → ℕ → ℕ → ℕ
 words_number n readings answers = cond (readings == answers * n) 0 (number_of WordLengthDiffers)
 
 -- what a call of that number leaves: the words searched, or all as it was
-abbrev pub Left : ℕ → (n : ℕ) (rows : List ℕ) (need : ℕ) (words work after : List Level) (old new : List Answer) → Type 0
-Left zero n rows need words work after old new = Searched n rows need words work after new
-Left (suc r) n rows need words work after old new = (after ≡ work) × (new ≡ old)
+abbrev pub WordsLeft : ℕ → (n : ℕ) (rows : List ℕ) (need : ℕ) (words work after : List Level) (old new : List Answer) → Type 0
+WordsLeft zero n rows need words work after old new = Searched n rows need words work after new
+WordsLeft (suc r) n rows need words work after old new = (after ≡ work) × (new ≡ old)
 
 -- such a need of the card in a file, or 0 where there is none
 abbrev pub need_in : (Card → ℕ) → Result Card Refusal → ℕ
@@ -63,5 +63,5 @@ call_number (Err e) readings answers = number_of e
 
 -- what a call on a card file leaves: the words searched by all rows of the card, or all as it was
 abbrev pub CardLeft : Result Card Refusal → (Card → ℕ) → ℕ → (words work after : List Level) (old new : List Answer) → Type 0
-CardLeft (Ok k) need r words work after old new = Left r k.len (rows_of k) (need k) words work after old new
+CardLeft (Ok k) need r words work after old new = WordsLeft r k.len (rows_of k) (need k) words work after old new
 CardLeft (Err e) need r words work after old new = (after ≡ work) × (new ≡ old)

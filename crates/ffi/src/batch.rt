@@ -2,7 +2,7 @@ ghost use Rattle.std.specs.Prelude.{◌≡◌, ◌*◌, length, Ok, Err, MatchRe
 ghost use Rattle.card.specs.Tables.{card_of};
 ghost use Rattle.card_file.specs.Files.{read_card_lem};
 ghost use Rattle.reading.specs.Kinds.{level_weight};
-ghost use Rattle.ffi.specs.Batch.{Left, Searched, WordSearched, refused, words_number};
+ghost use Rattle.ffi.specs.Batch.{Searched, WordSearched, WordsLeft, refused, words_number};
 
 use crate::answer::Answer;
 use card::states::FinishedCard;
@@ -89,7 +89,7 @@ pub(crate) fn search_all<F: Finder>(
 ) -> u8
     ensures value { result ≡ words_number (F.Finder.span finder.now) (length words.old) (length answers.old) }
     ensures same { words.new ≡ words.old }
-    ensures left { Left result (F.Finder.span finder.now) (F.Finder.rows finder.now) (F.Finder.need finder.now) words.old work.old work.new answers.old answers.new }
+    ensures left { WordsLeft result (F.Finder.span finder.now) (F.Finder.rows finder.now) (F.Finder.need finder.now) words.old work.old work.new answers.old answers.new }
 {
     let n = finder.length().places();
     if are_words(words.len(), answers.len(), n) {

@@ -1,5 +1,5 @@
 -- The rows of a card that a finder without layers takes.
-use Rattle.std.proofs.Common.{◌≡◌, ℕ, ◌+◌, ◌<◌, ◌≤◌, List, ◌++◌, length, get_or, take, sym, ap, ◌∙◌, subst, arith}
+use Rattle.std.proofs.Common.{◌≡◌, ℕ, ◌+◌, ◌<◌, ◌≤◌, ◌++◌, length, take, sym, ap, ◌∙◌, arith}
 use Rattle.std.proofs.lemmas.List.{append_assoc, length-append, length-take, take_at, get_or-take}
 use Rattle.code.specs.declared.refusal.Section.TheVariants.{Group, Transform}
 use Rattle.card.specs.Cards.{Card, Lawful, rows_of}

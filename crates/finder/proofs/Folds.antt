@@ -1,8 +1,7 @@
 -- One turn of the loops that fold a word.
-use Rattle.std.proofs.Common.{◌≡◌, ℕ, ◌+◌, ◌-◌, ◌*◌, ◌/◌, ◌%◌, ◌^◌, ◌<◌, ◌≤◌, cond, eqb, List, [], ◌∷◌, ◌++◌, map, length, get_or, take, drop, set, ℤ, pos, ◌+ℤ◌, sum_by, sym, refl, ap, ◌∙◌, subst, ⊎_elim, add-one, arith, pow_mono}
-use borrow.Rule.Slice.PartMut.{put_mid}
+use Rattle.std.proofs.Common.{◌≡◌, ℕ, ◌+◌, ◌-◌, ◌*◌, ◌/◌, ◌%◌, ◌^◌, ◌<◌, ◌≤◌, cond, eqb, List, ◌∷◌, length, get_or, take, drop, set, ℤ, pos, ◌+ℤ◌, sum_by, sym, refl, ap, ◌∙◌, ⊎_elim, add-one, arith, pow_mono}
 use lib.IntN.{+ℤ_idr}
-use Rattle.std.proofs.lemmas.List.{take_more_set, drop_more, length-drop, get_or-take, length-take}
+use Rattle.std.proofs.lemmas.List.{take_more_set, drop_more, length-drop, length-take}
 use Rattle.std.proofs.lemmas.List.Sums.{sum_by-set, sum_by_push}
 use Rattle.std.proofs.lemmas.Bool.{cases_eq, eq-eqb, ne_eqb, cond-true, cond-false}
 use Rattle.code.specs.Limits.{size_limit}

@@ -1,8 +1,8 @@
 -- The plain finder: what its transformed list holds, and its law.
-use Rattle.std.specs.Prelude.{◌≡◌, ℕ, ◌^◌, ◌<◌, ◌≤◌, cond, List, map, length, take, ℤ, pos, Ok, Err, Result, ◌==◌, slice_index, slice_index_or, refl}
+use Rattle.std.specs.Prelude.{◌≡◌, ℕ, ◌^◌, ◌<◌, ◌≤◌, cond, List, map, length, take, ℤ, pos, Ok, Err, Result, ◌==◌, slice_index, slice_index_or}
 use Rattle.std.proofs.Common.{sym, ap, subst, ◌∙◌, arith}
 use Rattle.std.proofs.lemmas.List.FromFn.{get_or-map-range_with_len}
-use Rattle.std.proofs.lemmas.List.{length-map, length-take, take_all}
+use Rattle.std.proofs.lemmas.List.{length-map, take_all}
 use Rattle.card.specs.Rows.{Within}
 use Rattle.code.specs.Limits.{Length, sum_limit}
 use Rattle.code.specs.Words.{agrees}

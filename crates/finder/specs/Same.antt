@@ -1,7 +1,6 @@
 -- Two finders, one after the other.
-use Rattle.std.specs.Prelude.{◌≡◌, ℕ, ◌⊎◌, List, map, length, drop, ℤ, None}
-use Rattle.code.specs.declared.refusal.Refusal.{Refusal}
-use Rattle.finder.specs.Search.{refusal, Refused}
+use Rattle.std.specs.Prelude.{◌≡◌, ℕ, List, map, length, drop, ℤ, None}
+use Rattle.finder.specs.Search.{refusal}
 
 -- with equal rows in the same order, at equal weights, both answers have the same message and the same weight
 abbrev pub SameAnswer : (rows others : List ℕ) (weights other_weights : List ℤ) (m n : ℕ) (x y : ℤ) → Type 0

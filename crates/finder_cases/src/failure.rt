@@ -3,7 +3,7 @@ use std::alloc::AllocError;
 use std::io;
 
 // Why the cases end early.
-#[derive(Drop)]
+#[derive(Debug, Drop)]
 pub enum Failure {
     Differs,
     Refused { refusal: Refusal },

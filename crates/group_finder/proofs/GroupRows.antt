@@ -1,14 +1,12 @@
 -- One group row more, and what comes after the last.
-use Rattle.std.proofs.Common.{◌≡◌, ℕ, zero, suc, ◌+◌, ◌-◌, ◌*◌, ◌/◌, ◌%◌, ◌^◌, ◌<◌, ◌≤◌, max, Bool, true, false, cond, not, ◌⊎◌, List, map, length, get_or, ℤ, pos, ◌+ℤ◌, neg_ℤ, ◌≤ℤ◌, ◌<ℤ◌, sym, refl, ap, ◌∙◌, subst, ap₂, inl, inr, ⊎_elim, add-one, arith, pow_mono}
+use Rattle.std.proofs.Common.{◌≡◌, ℕ, ◌+◌, ◌*◌, ◌%◌, ◌^◌, ◌<◌, ◌≤◌, max, Bool, true, false, not, ℤ, ◌+ℤ◌, neg_ℤ, sym, ap, ◌∙◌, subst, ap₂, ⊎_elim, add-one, arith, pow_mono}
 use lib.Arith.{digits_lt}
 use Rattle.code.specs.Limits.{sum_limit}
 use Rattle.std.proofs.lemmas.Int.{ints, by_lt_z}
 use Rattle.std.proofs.lemmas.Nat.{one_shl}
-use Rattle.hadamard.specs.Transform.{weight_at, size_at}
-use Rattle.hadamard.proofs.Entries.{read_at}
 use Rattle.code.specs.Words.{Top}
-use Rattle.group_finder.specs.Choices.{TopOf, signs, parity, of_parity, totalled, choice_value, Extended, Chosen, ByParity}
-use Rattle.group_finder.proofs.Parities.{row_keeps, row-takes, first_even, first_odd, value_even, value_odd, best-even, best-odd, none_best}
+use Rattle.group_finder.specs.Choices.{TopOf, signs, of_parity, totalled, choice_value, Extended, Chosen, ByParity}
+use Rattle.group_finder.proofs.Parities.{row_keeps, row-takes, first_even, first_odd, value_even, value_odd, best-even, best-odd}
 use Rattle.group_finder.proofs.Sizes.{totalled_le}
 
 module _ {R : Type 0} (weight : R → ℤ) (size : R → ℕ) (S : ℕ → ℤ) (bulk : ℕ → ℕ) (j : ℕ) (s : R) (ws : weight s ≡ S j) (zs : size s ≡ bulk j) (bit : ℕ) (eb : bit ≡ 2 ^ j) where

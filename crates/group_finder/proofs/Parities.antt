@@ -1,5 +1,5 @@
 -- The best choice of group rows, by parity.
-use Rattle.std.proofs.Common.{◌≡◌, ℕ, zero, suc, ◌+◌, ◌-◌, ◌*◌, ◌/◌, ◌%◌, ◌^◌, ◌<◌, ◌≤◌, Bool, true, false, cond, not, eqb, ◌⊎◌, ℤ, pos, ◌+ℤ◌, neg_ℤ, ◌≤ℤ◌, ◌<ℤ◌, sym, refl, ap, ◌∙◌, subst, ap₂, inl, inr, ⊎_elim, add-one, arith, pow-add}
+use Rattle.std.proofs.Common.{◌≡◌, ℕ, suc, ◌+◌, ◌-◌, ◌*◌, ◌/◌, ◌%◌, ◌^◌, ◌<◌, ◌≤◌, Bool, true, false, cond, not, eqb, ◌⊎◌, ℤ, pos, ◌+ℤ◌, neg_ℤ, ◌≤ℤ◌, ◌<ℤ◌, sym, refl, ap, ◌∙◌, subst, ap₂, inl, inr, ⊎_elim, add-one, arith, pow-add}
 use native.Mathlib.Nat.{pow-succ', div-eq_of_lt, add-mul-div_right, add-div_right}
 use lib.IntN.{+ℤ_idl}
 use lib.Signed.{≤ℤ_refl}
@@ -7,7 +7,6 @@ use lib.Count.{ones, ones_cat, ones_step}
 use Rattle.std.proofs.lemmas.Int.{ints}
 use Rattle.std.proofs.lemmas.Nat.{pow_pos}
 use Rattle.std.proofs.lemmas.Bool.{cases_lt, cases_Bool, cases_eq, both_ways, not-true, not_from_false}
-use Rattle.hadamard.specs.Transform.{summed}
 use Rattle.code.specs.Words.{negated_if, odd, Top}
 use Rattle.hadamard.proofs.Sums.{summed_ext}
 use Rattle.hadamard.proofs.Signs.{ones_0}

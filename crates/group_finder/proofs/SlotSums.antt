@@ -1,19 +1,18 @@
 -- The agreement of a message of group rows and others, by slots.
-use Rattle.std.proofs.Common.{◌≡◌, ℕ, zero, suc, ◌+◌, ◌-◌, ◌*◌, ◌/◌, ◌%◌, ◌^◌, ◌<◌, ◌≤◌, min, Bool, true, false, cond, not, eqb, ltb, ◌⊎◌, List, [], ◌∷◌, ◌++◌, map, length, get_or, ℤ, pos, ◌+ℤ◌, neg_ℤ, sym, refl, ap, ◌∙◌, subst, ap₂, inl, inr, ⊎_elim, mod-eq_of_lt, add-one, arith}
+use Rattle.std.proofs.Common.{◌≡◌, ℕ, zero, suc, ◌+◌, ◌-◌, ◌*◌, ◌/◌, ◌%◌, ◌^◌, ◌<◌, min, Bool, true, false, cond, not, eqb, ltb, List, ◌++◌, length, get_or, ℤ, pos, ◌+ℤ◌, sym, refl, ap, ◌∙◌, ap₂, ⊎_elim, mod-eq_of_lt, add-one, arith}
 use native.Mathlib.Nat.{pow-succ'}
 use lib.Arith.{digits_div, digits_mod}
-use lib.Bits.{bit_and, bit_xor, and_step, and_zero_r, and_mask, xor_shr}
+use lib.Bits.{bit_and, and_step, and_zero_r, and_mask, xor_shr}
 use lib.Count.{ones, ones_step}
-use Rattle.std.proofs.lemmas.Int.{ints}
 use Rattle.std.proofs.lemmas.Bool.{cases_eq, eq-eqb, ne_eqb, cond-true, cond-false, lt-ltb, le-ltb}
 use Rattle.hadamard.specs.Transform.{summed, odd_common, spectrum}
-use Rattle.code.specs.Words.{negated_if, odd, codeword, agreement, agrees}
+use Rattle.code.specs.Words.{negated_if, odd, codeword, agrees}
 use Rattle.hadamard.proofs.Sums.{summed_ext}
 use Rattle.hadamard.proofs.Signs.{ones_0, negated_if_not}
 use Rattle.code.proofs.Xor.{odd-xor}
 use Rattle.code.proofs.Codewords.{codeword-append}
 use Rattle.finder.specs.Fold.{column, sum_of_slot}
-use Rattle.group_finder.specs.Choices.{signs, parity, choice_value, Slotted, slot_sum}
+use Rattle.group_finder.specs.Choices.{parity, choice_value, Slotted, slot_sum}
 use Rattle.finder.specs.Gather.{summed-front, negated_if-summed, negated_if_cond, gather, spectrum_folded, agreement-summed, digit_link, half_pow}
 
 pub negated_if_both : (a b : Bool) (w : ℤ) → negated_if (cond a (not b) b) w ≡ negated_if a (negated_if b w)

@@ -1,11 +1,11 @@
 -- The best choices by their weights alone.
-use Rattle.std.proofs.Common.{◌≡◌, ℕ, ◌+◌, ◌*◌, ◌^◌, ◌<◌, ◌≤◌, max, Bool, true, false, cond, ℤ, ◌+ℤ◌, neg_ℤ, ◌≤ℤ◌, ◌<ℤ◌, sym, refl, ap, ◌∙◌, subst, inl, inr, ⊎_elim, arith}
+use Rattle.std.proofs.Common.{◌≡◌, ℕ, ◌+◌, ◌*◌, ◌^◌, ◌≤◌, max, Bool, true, false, cond, ℤ, ◌+ℤ◌, neg_ℤ, ◌≤ℤ◌, ◌<ℤ◌, sym, refl, ap, ◌∙◌, inl, inr, ⊎_elim, arith}
 use lib.Signed.{lt_z}
 use Rattle.std.proofs.lemmas.Int.{ints, by_lt_z}
 use Rattle.std.proofs.lemmas.Bool.{cases_lt}
 use Rattle.code.specs.Words.{Top}
 use Rattle.finder.proofs.Picks.{less, not_less}
-use Rattle.group_finder.specs.Choices.{BestBefore, ByParity, Chosen, Extended, WeighsBest, choice_value, group_value}
+use Rattle.group_finder.specs.Choices.{BestBefore, ByParity, Chosen, Extended, WeighsBest, choice_value}
 use Rattle.group_finder.proofs.GroupRows.{settled}
 use Rattle.group_finder.proofs.Over.{value-at, over-takes, over-keeps}
 

@@ -1,19 +1,19 @@
 -- The group finder as a whole.
-use Rattle.std.proofs.Common.{◌≡◌, ℕ, zero, suc, ◌+◌, ◌-◌, ◌*◌, ◌/◌, ◌%◌, ◌^◌, ◌<◌, ◌≤◌, Bool, cond, eqb, List, [], ◌∷◌, ◌++◌, map, length, get_or, take, drop, ℤ, pos, ◌+ℤ◌, sum_by, sym, refl, ap, ◌∙◌, subst, ap₂, mul-le-mul_right, mod-lt, div-lt_iff_lt-mul, add-mul, add_comm, add-one, arith, pow-add}
+use Rattle.std.proofs.Common.{◌≡◌, ℕ, zero, suc, ◌+◌, ◌*◌, ◌/◌, ◌%◌, ◌^◌, ◌<◌, ◌≤◌, cond, eqb, List, ◌++◌, map, length, get_or, take, drop, ℤ, pos, ◌+ℤ◌, sum_by, sym, ap, ◌∙◌, subst, ap₂, mul-le-mul_right, mod-lt, div-lt_iff_lt-mul, add-mul, add-one, arith, pow-add}
 use native.Mathlib.Nat.{mod-add-div'}
 use lib.Arith.{digits_lt}
 use Rattle.code.specs.Limits.{sum_limit}
 use Rattle.std.proofs.lemmas.Nat.{pow_pos}
 use Rattle.std.proofs.lemmas.List.{length-map, length-append, length-take-le, length-drop, drop-drop, drop-map, take-map, get_or-take, get_or-drop}
 use Rattle.std.proofs.lemmas.List.Sums.{sum_by-take-drop}
-use Rattle.hadamard.specs.Transform.{weight_at, size_at, spectrum}
+use Rattle.hadamard.specs.Transform.{weight_at, size_at}
 use Rattle.code.specs.Words.{negated_if, agrees, Top, Best}
 use Rattle.hadamard.proofs.Sums.{summed_ext}
 use Rattle.code.proofs.Tops.{top-same}
 use Rattle.finder.specs.Fold.{column, sum_of_slot}
-use Rattle.group_finder.specs.Choices.{totalled, choice_value, group_value, Slotted, slot_sum, PartsDone, signs, parity}
+use Rattle.group_finder.specs.Choices.{totalled, choice_value, group_value, Slotted, slot_sum, PartsDone, parity}
 use Rattle.finder.specs.Gather.{column_below}
-use Rattle.group_finder.proofs.SlotSums.{decompose, part_spectrum, slot_below}
+use Rattle.group_finder.proofs.SlotSums.{decompose, part_spectrum}
 
 totalled_mono : (n : ℕ) (f g : ℕ → ℕ) → ((i : ℕ) → i < n → f i ≤ g i) → totalled n f ≤ totalled n g
 totalled_mono zero f g h = omega arith

@@ -1,15 +1,14 @@
-use Rattle.std.proofs.Common.{◌≡◌, ℕ, ◌+◌, ◌-◌, ◌*◌, ◌^◌, ◌<◌, ◌≤◌, List, map, length, get_or, take, drop, pos, sum_by, sym, refl, ap, ◌∙◌, subst, arith, pow_mono, rules}
+use Rattle.std.proofs.Common.{◌≡◌, ℕ, ◌+◌, ◌-◌, ◌*◌, ◌^◌, ◌<◌, ◌≤◌, map, length, get_or, take, pos, sum_by, sym, ap, ◌∙◌, arith, pow_mono}
 use Rattle.std.proofs.lemmas.Nat.{pow_pos}
 use Rattle.std.proofs.lemmas.List.{length-take-le, length-map}
 use Rattle.std.proofs.lemmas.Slice.{drop-append-drop}
 use Rattle.code.specs.Limits.{sum_limit}
-use Rattle.hadamard.specs.Transform.{weight_at, size_at}
+use Rattle.hadamard.specs.Transform.{weight_at}
 use Rattle.hadamard.proofs.Entries.{at_take}
 use Rattle.finder.specs.Fold.{sum_of_slot}
 use Rattle.finder.proofs.Refusals.{taken_facts}
 use Rattle.group_finder.specs.Concurring.{concurs_at}
 use Rattle.group_finder.proofs.Whole.{sizes_fit, value-agrees, whole-best}
-use Rattle.group_finder.proofs.search_group.Given as given
 use Rattle.group_finder.proofs.search_group.Goals as goal
 
 pub group_slots-slots-requires : goal.group_slots-slots-requires

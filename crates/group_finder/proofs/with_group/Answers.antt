@@ -1,9 +1,8 @@
-use Rattle.std.proofs.Common.{◌≡◌, ℕ, ◌+◌, ◌≤◌, List, ◌++◌, length, take, sym, refl, ap, ◌∙◌, subst, arith, rules}
+use Rattle.std.proofs.Common.{◌≡◌, length, take, sym, ap, ◌∙◌, subst, arith}
 use Rattle.std.proofs.lemmas.List.{length-append, take_at}
 use Rattle.code.specs.declared.refusal.Section.TheVariants.{Group, Transform}
 use Rattle.card.specs.Rows.{Concur}
 use Rattle.card.specs.Tables.{card_of}
-use Rattle.group_finder.proofs.with_group.Given as given
 use Rattle.group_finder.proofs.with_group.Goals as goal
 
 pub invariant_of-result : goal.invariant_of-result

@@ -1,10 +1,8 @@
-use Rattle.std.proofs.Common.{◌≡◌, ℕ, ◌+◌, ◌^◌, ◌<◌, ◌≤◌, map, length, get_or, sym, refl, ap, ◌∙◌, arith, rules}
+use Rattle.std.proofs.Common.{◌<◌, ◌≤◌, map, get_or, sym, ◌∙◌, arith}
 use Rattle.std.proofs.lemmas.List.{length-map}
 use Rattle.code.specs.Limits.{size_limit}
 use Rattle.hadamard.proofs.Entries.{read_at}
-use Rattle.finder.specs.Search.{large_from, refusal}
 use Rattle.finder.proofs.Refusals.{memory, wrong-length, right-length, size-passes, size-stops, sizes-pass, memory_short, memory-fits}
-use Rattle.finder.proofs.fold.check.Given as given
 use Rattle.finder.proofs.fold.check.Goals as goal
 
 pub returns-then-word-n : goal.returns-then-word-n

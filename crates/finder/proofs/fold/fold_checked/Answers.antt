@@ -1,13 +1,11 @@
-use Rattle.std.proofs.Common.{◌≡◌, ℕ, ◌-◌, ◌*◌, ◌<◌, ◌≤◌, List, ◌++◌, map, length, get_or, take, drop, pos, None, sum_by, sym, refl, ap, ◌∙◌, subst, arith, rules}
+use Rattle.std.proofs.Common.{◌≡◌, ℕ, ◌-◌, ◌*◌, ◌++◌, map, length, get_or, take, pos, sum_by, sym, ap, ◌∙◌, arith}
 use borrow.Rule.Slice.PartMut.{post_of}
 use Rattle.std.proofs.lemmas.List.{length-take-le, length-map, map-append, get_or_append_left, take_at}
 use Rattle.std.proofs.lemmas.Slice.{drop-append-drop}
 use Rattle.code.specs.Limits.{size_limit}
 use Rattle.hadamard.specs.Transform.{weight_at}
-use Rattle.finder.specs.Search.{refusal}
 use Rattle.finder.specs.Fold.{sum_of_slot}
 use Rattle.finder.proofs.Refusals.{taken_facts, all_sizes}
-use Rattle.finder.proofs.fold.fold_checked.Given as given
 use Rattle.finder.proofs.fold.fold_checked.Goals as goal
 
 pub slice_bounds-list-end : goal.slice_bounds-list-end

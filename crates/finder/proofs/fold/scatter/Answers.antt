@@ -1,4 +1,4 @@
-use Rattle.std.proofs.Common.{◌≡◌, ℕ, ◌+◌, ◌*◌, ◌^◌, ◌<◌, ◌≤◌, List, length, get_or, set, pos, ◌+ℤ◌, sum_by, sym, refl, ap, ◌∙◌, subst, ap₂, arith, rules}
+use Rattle.std.proofs.Common.{◌≡◌, ℕ, ◌+◌, ◌*◌, ◌<◌, ◌≤◌, List, length, get_or, pos, ◌+ℤ◌, sum_by, sym, ap, ◌∙◌, subst, ap₂, arith}
 use Rattle.std.proofs.lemmas.List.{length-set}
 use Rattle.std.proofs.ByRecursion.{All-get_or}
 use Rattle.std.proofs.lemmas.List.Sums.{get_or-le-sum_by}
@@ -7,7 +7,6 @@ use Rattle.hadamard.specs.Transform.{weight_at}
 use Rattle.hadamard.proofs.Entries.{read_at}
 use Rattle.finder.specs.Fold.{sum_of_slot}
 use Rattle.finder.proofs.Folds.{fold-skips, fold_step, total-step}
-use Rattle.finder.proofs.fold.scatter.Given as given
 use Rattle.finder.proofs.fold.scatter.Goals as goal
 use Rattle.finder.proofs.fold.scatter.Goals.{then-at-list, else-at-list}
 

@@ -1,11 +1,10 @@
-use Rattle.std.proofs.Common.{◌≡◌, ℕ, ◌+◌, ◌<◌, ◌≤◌, length, pos, sym, refl, ap, ◌∙◌, subst, arith, rules}
+use Rattle.std.proofs.Common.{◌≡◌, ℕ, ◌+◌, length, pos, sym, subst, arith}
 use lib.Signed.{lt_z}
 use Rattle.std.proofs.lemmas.Int.{ints}
 use Rattle.code.specs.Words.{Top}
 use Rattle.hadamard.specs.Transform.{weight_at}
 use Rattle.hadamard.proofs.Entries.{read_at}
 use Rattle.finder.proofs.Picks.{picked, less, not_less, largest-takes, largest-keeps, largest_first}
-use Rattle.finder.proofs.plain.first_largest.Given as given
 use Rattle.finder.proofs.plain.first_largest.Goals as goal
 
 pub loop-i-init : goal.loop-i-init

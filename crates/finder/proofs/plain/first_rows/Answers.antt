@@ -1,11 +1,9 @@
-use Rattle.std.proofs.Common.{◌≡◌, ℕ, ◌≤◌, List, length, take, sym, ap, ◌∙◌, subst, ap₂, arith, rules}
+use Rattle.std.proofs.Common.{ℕ, List, length, take, sym, ap, ◌∙◌, subst, arith, rules}
 use native.Mathlib.Nat.{sub-zero}
-use Rattle.card.specs.Cards.{Card}
 use Rattle.card.specs.Rows.{Within}
 use Rattle.card.specs.Tables.{card_of}
 use Rattle.finder.specs.Fold.{ColumnsAt}
 use Rattle.finder.proofs.CardRows.{first_two, first-fit, first-few, first-within}
-use Rattle.finder.proofs.plain.first_rows.Given as given
 use Rattle.finder.proofs.plain.first_rows.Goals as goal
 
 pub table_of-rows-requires : goal.table_of-rows-requires

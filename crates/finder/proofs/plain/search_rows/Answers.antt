@@ -1,4 +1,4 @@
-use Rattle.std.proofs.Common.{◌≡◌, ℕ, ◌-◌, ◌*◌, ◌^◌, ◌<◌, ◌≤◌, List, map, length, get_or, take, drop, pos, sum_by, sym, refl, ap, ◌∙◌, subst, arith, pow_mono, rules}
+use Rattle.std.proofs.Common.{◌≡◌, ℕ, ◌-◌, ◌^◌, ◌≤◌, map, length, get_or, take, pos, sum_by, ap, ◌∙◌, subst, arith, pow_mono}
 use Rattle.std.proofs.lemmas.Nat.{pow_pos}
 use Rattle.std.proofs.lemmas.List.{length-take-le, length-map}
 use Rattle.std.proofs.lemmas.Slice.{drop-append-drop}
@@ -7,10 +7,9 @@ use Rattle.code.specs.Words.{Top, agrees}
 use Rattle.code.proofs.Tops.{top-same}
 use Rattle.hadamard.specs.Transform.{weight_at, Transformed}
 use Rattle.hadamard.proofs.Entries.{at_take}
-use Rattle.finder.specs.Fold.{column_rows, sum_of_slot}
+use Rattle.finder.specs.Fold.{sum_of_slot}
 use Rattle.finder.proofs.Refusals.{taken_facts}
 use Rattle.finder.specs.PlainRows.{transform_taken, holds-agreements}
-use Rattle.finder.proofs.plain.search_rows.Given as given
 use Rattle.finder.proofs.plain.search_rows.Goals as goal
 
 pub slice_bounds-list-end : goal.slice_bounds-list-end

@@ -1,7 +1,6 @@
-use Rattle.std.proofs.Common.{◌≡◌, ℕ, ◌-◌, List, length, take, sym, ap, ◌∙◌, subst, ap₂, arith, rules}
+use Rattle.std.proofs.Common.{◌≡◌, ℕ, ◌-◌, List, length, take, sym, ap, ◌∙◌, subst, ap₂, arith}
 use Rattle.std.proofs.lemmas.List.{length-take-le}
 use Rattle.card.specs.Rows.{Concur}
-use Rattle.group_finder.proofs.GroupFinder.group_rows.Given as given
 use Rattle.group_finder.proofs.GroupFinder.group_rows.Goals as goal
 
 pub returns : goal.returns

@@ -1,9 +1,8 @@
-use Rattle.std.proofs.Common.{◌≡◌, ℕ, ◌+◌, ◌*◌, ◌^◌, ◌<◌, ◌≤◌, List, map, length, get_or, ℤ, pos, ◌+ℤ◌, neg_ℤ, sym, refl, ap, ◌∙◌, subst, ap₂, ⊎_elim, arith, rules}
-use Rattle.code.specs.Limits.{sum_limit}
+use Rattle.std.proofs.Common.{◌≡◌, ℕ, ◌+◌, ◌*◌, ◌^◌, ◌<◌, List, map, length, get_or, ℤ, pos, ◌+ℤ◌, neg_ℤ, sym, ap, ◌∙◌, subst, ap₂, ⊎_elim, arith}
 use Rattle.hadamard.specs.Transform.{weight_at, size_at}
 use Rattle.hadamard.proofs.Entries.{read_at}
 use Rattle.code.specs.Words.{Top}
-use Rattle.group_finder.specs.Choices.{totalled, choice_value}
+use Rattle.group_finder.specs.Choices.{choice_value}
 use Rattle.group_finder.proofs.Parities.{none_best}
 use Rattle.group_finder.proofs.GroupRows.{index_below, settled}
 use Rattle.group_finder.proofs.choices.best_choice.Goals as goal

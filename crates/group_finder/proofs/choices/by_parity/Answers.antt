@@ -1,8 +1,8 @@
-use Rattle.std.proofs.Common.{◌≡◌, ℕ, ◌+◌, ◌*◌, ◌%◌, ◌^◌, ◌<◌, ◌≤◌, length, ℤ, pos, neg_ℤ, sym, refl, ap, ◌∙◌, subst, arith, rules}
+use Rattle.std.proofs.Common.{◌≡◌, ℕ, ◌+◌, ◌*◌, ◌%◌, ◌^◌, ◌<◌, ◌≤◌, length, pos, neg_ℤ, sym, refl, ap, ◌∙◌, subst, arith}
 use Rattle.code.specs.Limits.{sum_limit}
 use Rattle.hadamard.specs.Transform.{weight_at, size_at}
 use Rattle.hadamard.proofs.Entries.{read_at}
-use Rattle.group_finder.specs.Choices.{totalled, ByParity}
+use Rattle.group_finder.specs.Choices.{ByParity}
 use Rattle.group_finder.proofs.GroupRows.{parity-step, parity-room, parity_first, bit_is, bit_small, index_below}
 use Rattle.group_finder.proofs.Sizes.{totalled_le}
 use Rattle.group_finder.proofs.choices.by_parity.Goals as goal

@@ -1,4 +1,4 @@
-use Rattle.std.proofs.Common.{◌≡◌, ◌+◌, ◌*◌}
+use Rattle.std.proofs.Common.{◌+◌, ◌*◌}
 use Rattle.hadamard.specs.Transform.{weight_at, size_at}
 use Rattle.group_finder.specs.Choices.{ByParity}
 use Rattle.group_finder.proofs.choices.by_parity.Given as goal

@@ -1,4 +1,4 @@
-use Rattle.std.proofs.Common.{◌≡◌, ℕ, ◌+◌, ◌*◌, ◌/◌, ◌%◌, ◌^◌, ◌<◌, ◌≤◌, List, ◌++◌, length, get_or, take, set, sym, refl, ap, ◌∙◌, subst, ap₂, arith, length-append, pow_mono, rules, below_more}
+use Rattle.std.proofs.Common.{◌≡◌, ℕ, ◌+◌, ◌*◌, ◌/◌, ◌%◌, ◌^◌, ◌<◌, ◌≤◌, List, ◌++◌, length, get_or, take, set, sym, refl, ap, ◌∙◌, subst, ap₂, arith, length-append, pow_mono, below_more}
 use lib.Arith.{digits_div, digits_lt, digits_mod}
 use Rattle.std.proofs.lemmas.Nat.{one_shl}
 use Rattle.std.proofs.lemmas.List.{get_or-set_same, get_or-set_other, length-set, take_all}
@@ -7,7 +7,6 @@ use Rattle.finder.specs.Gather.{column_below}
 use Rattle.group_finder.specs.Choices.{Slotted, Concurs}
 use Rattle.group_finder.proofs.Columns.{column-append}
 use Rattle.group_finder.proofs.SlotSums.{slot_below}
-use Rattle.group_finder.proofs.slots.group_slots.Given as given
 use Rattle.group_finder.proofs.slots.group_slots.Goals as goal
 
 -- the column of the group and that of the others, out of the column of all

@@ -1,4 +1,4 @@
-use Rattle.std.proofs.Common.{◌<◌, arith, rules}
+use Rattle.std.proofs.Common.{arith}
 use Rattle.group_finder.specs.Concurring.{last_slot}
 use Rattle.group_finder.proofs.slots.single_slot.Goals as goal
 
