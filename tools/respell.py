@@ -2,6 +2,7 @@
 """Turns the repository's own definitions, lemmas and record fields to the spelling of today's Rattle: words in snake case, types and modules in camel case.
 
 usage: python3 tools/respell.py [--list]      at the top of a checkout, right after /opt/rattle/port/port.py
+       python3 tools/respell.py --modules     after that: the lemmas that stand indented, inside a `module _` or a `where`, whose names get `_` for each dash
 
 A word in camel case that begins small, as `weightAt`, becomes `weight_at`, wherever it stands in an .antt file, in a ghost part of an .rt file, in a must-fail edit or in backquotes of a page.
 In the name of a lemma a dash stays where it joins the names of two definitions, as in `codeword-xor`; any other dash becomes `_`. A record's field has no dash.
@@ -127,6 +128,21 @@ def spelling(root):
     return {a: b for a, b in to.items() if a != b}
 
 
+def indented(root):
+    """The lemmas and local facts that stand indented: their dashes become `_`. A name behind a dot is Rattle's or a field's and stays."""
+    names = set()
+    for path in files(root, ".antt"):
+        for line in read(path).split("\n"):
+            m = FIELD.match(line)
+            if m and "-" in m.group(1) and "goal." not in line:
+                names.add(m.group(1))
+    return {n: n.replace("-", "_") for n in names}
+
+
+def turned_inside(text, to):
+    return re.sub(r"(?<!\.)" + IDENT.pattern, lambda m: to.get(m.group(0), m.group(0)), text)
+
+
 def without_uses(text):
     """A file without the lines that import from the library and the logic, whose words are not ours."""
     return "\n".join(l for l in text.split("\n") if not re.match(r"(pub )?use (Rattle\.std|Prim|lib|native|mathlib|borrow|denote)\b", l))
@@ -138,6 +154,16 @@ def turned(text, to):
 
 def main(argv):
     root = os.getcwd()
+    if "--modules" in argv:
+        to = indented(root)
+        for path in files(root, ".antt"):
+            old = read(path)
+            new = turned_inside(old, to)
+            if new != old:
+                with open(path, "w", encoding="utf-8") as f:
+                    f.write(new)
+        print(f"respell: {len(to)} names")
+        return 0
     to = spelling(root)
     if "--list" in argv:
         for a in sorted(to):

@@ -13,12 +13,12 @@ use Rattle.card.specs.Echelon.{Lacks, AllLack, LacksAll, Echelon, SameSpan, Redu
 
 xor-one : (x : ℕ) → ((x % 2 ≡ 0) × (bit_xor x 1 ≡ x + 1)) ⊎ ((x % 2 ≡ 1) × (bit_xor x 1 + 1 ≡ x))
 xor-one x = elim (digit_two (x % 2) (mod-lt x two_pos)) [
-  | inl z ↦ inl (z, one-step x ∙ ap (λ (d : ℕ). x / 2 * 2 + differ d 1) z ∙ omega (arith, div-add-mod' x 2))
-  | inr o ↦ inr (o, ap (λ (y : ℕ). y + 1) (one-step x ∙ ap (λ (d : ℕ). x / 2 * 2 + differ d 1) o) ∙ omega (arith, div-add-mod' x 2))
+  | inl z ↦ inl (z, one_step x ∙ ap (λ (d : ℕ). x / 2 * 2 + differ d 1) z ∙ omega (arith, div-add-mod' x 2))
+  | inr o ↦ inr (o, ap (λ (y : ℕ). y + 1) (one_step x ∙ ap (λ (d : ℕ). x / 2 * 2 + differ d 1) o) ∙ omega (arith, div-add-mod' x 2))
 ]
   where
-    one-step : (x : ℕ) → bit_xor x 1 ≡ x / 2 * 2 + differ (x % 2) 1
-    one-step x = xor_step x 1 ∙ ap (λ (y : ℕ). y * 2 + differ (x % 2) 1) (xor_zero_r (x / 2))
+    one_step : (x : ℕ) → bit_xor x 1 ≡ x / 2 * 2 + differ (x % 2) 1
+    one_step x = xor_step x 1 ∙ ap (λ (y : ℕ). y * 2 + differ (x % 2) 1) (xor_zero_r (x / 2))
 
 -- the place of the first digit
 pub lead : (b : ℕ) → 0 < b → (p : ℕ) × (b / 2 ^ p ≡ 1)

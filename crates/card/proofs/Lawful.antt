@@ -10,7 +10,7 @@ use Rattle.card.specs.Rows.{Within, Concur}
 use Rattle.card.specs.Cards.{Lawful, section_of, max_section_rows, card_rows}
 use Rattle.card.specs.Tables.{card_of}
 use Rattle.card.proofs.Tables.{rows_joined, part_length}
-use Rattle.card.proofs.Pushes.{Passed, count_is, more_within, more-independent, same-concur, more_concur}
+use Rattle.card.proofs.Pushes.{Passed, count_is, more_within, more_independent, same_concur, more_concur}
 
 -- what the ghost fields of a table say
 pub record Kept (n g t c : ℕ) (xs : List ℕ) : Type 0 where
@@ -44,29 +44,29 @@ lawful_table t l =
 
 -- with one row more
 module _ (t : Table) (row : ℕ) (n : length t.rows ≡ card_rows) where
-  pub kept-group : Passed (card_of t) Group row → t.transform ≡ 0 → t.coset ≡ 0
+  pub kept_group : Passed (card_of t) Group row → t.transform ≡ 0 → t.coset ≡ 0
       → Kept t.len.places (t.group + 1) t.transform t.coset (set t.rows (t.group + t.transform + t.coset) row)
-  kept-group p zt zc = record {
+  kept_group p zt zc = record {
     few = (omega (arith, p.room, count_is t Group n), t.few.1, t.few.2);
     within = more_within t Group row n p _ (omega arith);
-    independent = more-independent t Group row n p _ (omega arith);
+    independent = more_independent t Group row n p _ (omega arith);
     concur = more_concur t row n p zt zc;
   }
 
-  pub kept-transform : Passed (card_of t) Transform row
+  pub kept_transform : Passed (card_of t) Transform row
       → Kept t.len.places t.group (t.transform + 1) t.coset (set t.rows (t.group + t.transform + t.coset) row)
-  kept-transform p = record {
+  kept_transform p = record {
     few = (t.few.0, omega (arith, p.room, count_is t Transform n), t.few.2);
     within = more_within t Transform row n p _ (omega arith);
-    independent = more-independent t Transform row n p _ (omega arith);
-    concur = same-concur t Transform row n p t.group (omega arith) t.concur;
+    independent = more_independent t Transform row n p _ (omega arith);
+    concur = same_concur t Transform row n p t.group (omega arith) t.concur;
   }
 
-  pub kept-coset : Passed (card_of t) Coset row
+  pub kept_coset : Passed (card_of t) Coset row
       → Kept t.len.places t.group t.transform (t.coset + 1) (set t.rows (t.group + t.transform + t.coset) row)
-  kept-coset p = record {
+  kept_coset p = record {
     few = (t.few.0, t.few.1, omega (arith, p.room, count_is t Coset n));
     within = more_within t Coset row n p _ (omega arith);
-    independent = more-independent t Coset row n p _ (omega arith);
-    concur = same-concur t Coset row n p t.group (omega arith) t.concur;
+    independent = more_independent t Coset row n p _ (omega arith);
+    concur = same_concur t Coset row n p t.group (omega arith) t.concur;
   }

@@ -55,29 +55,29 @@ index_below t Coset h = omega arith
 
 -- the table's rows with one more
 module _ (t : Table) (s : Section) (row : ℕ) (n : length t.rows ≡ 24) (p : Passed (card_of t) s row) where
-  pub at-below : t.group + t.transform + t.coset < 24
-  at-below = index_below t s (subst (λ (k : ℕ). k < 8) (count_is t s n) p.room)
+  pub at_below : t.group + t.transform + t.coset < 24
+  at_below = index_below t s (subst (λ (k : ℕ). k < 8) (count_is t s n) p.room)
 
   one_more : (m : ℕ) → m ≡ t.group + t.transform + t.coset + 1
       → take m (set t.rows (t.group + t.transform + t.coset) row) ≡ take (t.group + t.transform + t.coset) t.rows ++ row ∷ []
   one_more m e =
       ap (λ (k : ℕ). take k (set t.rows (t.group + t.transform + t.coset) row)) e
-      ∙ take_more_set t.rows (t.group + t.transform + t.coset) row (omega (arith, at-below))
+      ∙ take_more_set t.rows (t.group + t.transform + t.coset) row (omega (arith, at_below))
 
   pub more_within : (m : ℕ) → m ≡ t.group + t.transform + t.coset + 1 → Within t.len.places (take m (set t.rows (t.group + t.transform + t.coset) row))
   more_within m e =
       subst (Within t.len.places) (sym (one_more m e))
       (within_push t.len.places (take (t.group + t.transform + t.coset) t.rows) row t.within p.inside)
 
-  pub more-independent : (m : ℕ) → m ≡ t.group + t.transform + t.coset + 1 → Independent (take m (set t.rows (t.group + t.transform + t.coset) row))
-  more-independent m e =
+  pub more_independent : (m : ℕ) → m ≡ t.group + t.transform + t.coset + 1 → Independent (take m (set t.rows (t.group + t.transform + t.coset) row))
+  more_independent m e =
       let all = take (t.group + t.transform + t.coset) t.rows in
       let new : dependent all row ≡ false = subst (λ (l : List ℕ). dependent l row ≡ false) (rows_joined t.rows t.group t.transform t.coset) p.new in
       subst Independent (sym (one_more m e))
       (independent_push all row t.independent (λ sp. both_ways (dependent all row) new (dependent_from_span all row sp)))
 
-  pub same-concur : (g : ℕ) → g ≤ t.group + t.transform + t.coset → Concur (take g t.rows) → Concur (take g (set t.rows (t.group + t.transform + t.coset) row))
-  same-concur g l h = subst Concur (sym (take-set-le g t.rows (t.group + t.transform + t.coset) row l)) h
+  pub same_concur : (g : ℕ) → g ≤ t.group + t.transform + t.coset → Concur (take g t.rows) → Concur (take g (set t.rows (t.group + t.transform + t.coset) row))
+  same_concur g l h = subst Concur (sym (take-set-le g t.rows (t.group + t.transform + t.coset) row l)) h
 
 -- the group's rows with one more still concur
 pub more_concur : (t : Table) (row : ℕ) → length t.rows ≡ 24 → Passed (card_of t) Group row → t.transform ≡ 0 → t.coset ≡ 0

@@ -21,18 +21,18 @@ part_length xs n m h = length-take-le m (drop n xs) (simp length-drop (omega ari
 
 -- the verdict, by which checks pass
 module _ (k : Card) (s : Section) (row n : ℕ) (is : n ≡ length (section_of k s)) where
-  pub verdict-dependent : leb (2 ^ k.len) row ≡ false → n < 8 → dependent (rows_of k) row ≡ true → Err (DependentRow s n) ≡ verdict k s row
-  verdict-dependent a b d =
+  pub verdict_dependent : leb (2 ^ k.len) row ≡ false → n < 8 → dependent (rows_of k) row ≡ true → Err (DependentRow s n) ≡ verdict k s row
+  verdict_dependent a b d =
       let b' : leb 8 (length (section_of k s)) ≡ false = lt-leb 8 (length (section_of k s)) (omega arith) in
       simp (a, b', d, is)
 
-  pub verdict-concurrence : leb (2 ^ k.len) row ≡ false → n < 8 → dependent (rows_of k) row ≡ false → keeps k s row ≡ false → Err (ConcurrenceBroken s n) ≡ verdict k s row
-  verdict-concurrence a b d e =
+  pub verdict_concurrence : leb (2 ^ k.len) row ≡ false → n < 8 → dependent (rows_of k) row ≡ false → keeps k s row ≡ false → Err (ConcurrenceBroken s n) ≡ verdict k s row
+  verdict_concurrence a b d e =
       let b' : leb 8 (length (section_of k s)) ≡ false = lt-leb 8 (length (section_of k s)) (omega arith) in
       simp (a, b', d, e, is)
 
-  pub verdict-ok : leb (2 ^ k.len) row ≡ false → n < 8 → dependent (rows_of k) row ≡ false → keeps k s row ≡ true → Ok tt ≡ verdict k s row
-  verdict-ok a b d e =
+  pub verdict_ok : leb (2 ^ k.len) row ≡ false → n < 8 → dependent (rows_of k) row ≡ false → keeps k s row ≡ true → Ok tt ≡ verdict k s row
+  verdict_ok a b d e =
       let b' : leb 8 (length (section_of k s)) ≡ false = lt-leb 8 (length (section_of k s)) (omega arith) in
       simp (a, b', d, e)
 

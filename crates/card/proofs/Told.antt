@@ -7,7 +7,7 @@ use Rattle.code.specs.Spans.{Span}
 use Rattle.card.specs.Rows.{Within, dependent, concordant}
 use Rattle.card.specs.Cards.{Card, Lawful, Keeps, Told, keeps, rows_of, section_of, verdict}
 use Rattle.card.proofs.Decided.{dependent_from_span, span_from_dependent, concordant_from, concur_from_concordant}
-use Rattle.card.proofs.Tables.{verdict-dependent, verdict-concurrence, verdict-ok, within_push, within_left}
+use Rattle.card.proofs.Tables.{verdict_dependent, verdict_concurrence, verdict_ok, within_push, within_left}
 
 pub not_dependent : (rows : List ℕ) (x : ℕ) → (Span rows x → ⊥) → dependent rows x ≡ false
 not_dependent rows x out =
@@ -34,7 +34,7 @@ told-verdict k s row l =
     record {
       beyond = λ h. let t = le-leb (2 ^ k.len) row h in simp t;
       full = λ h f. let t = lt-leb (2 ^ k.len) row h in let u = le-leb 8 n f in simp (t, u);
-      dependent = λ h f sp. sym (verdict-dependent k s row n refl (inside h) f (dependent_from_span (rows_of k) row sp));
-      broken = λ h f out bad. sym (verdict-concurrence k s row n refl (inside h) f (not_dependent (rows_of k) row out) (keeps_false k s row l h bad));
-      taken = λ h f out good. sym (verdict-ok k s row n refl (inside h) f (not_dependent (rows_of k) row out) (keeps_true k s row good));
+      dependent = λ h f sp. sym (verdict_dependent k s row n refl (inside h) f (dependent_from_span (rows_of k) row sp));
+      broken = λ h f out bad. sym (verdict_concurrence k s row n refl (inside h) f (not_dependent (rows_of k) row out) (keeps_false k s row l h bad));
+      taken = λ h f out good. sym (verdict_ok k s row n refl (inside h) f (not_dependent (rows_of k) row out) (keeps_true k s row good));
     }

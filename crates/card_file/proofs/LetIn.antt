@@ -10,7 +10,7 @@ use Rattle.code.proofs.Spans.{independent_out, independent_prefix}
 use Rattle.card.specs.Rows.{Within, Concur, dependent, tally}
 use Rattle.card.specs.Cards.{Card, Lawful, verdict, pushed, blank}
 use Rattle.card.proofs.Decided.{span_from_dependent, concordant_from}
-use Rattle.card.proofs.Tables.{verdict-ok, within_left, within_right}
+use Rattle.card.proofs.Tables.{verdict_ok, within_left, within_right}
 use Rattle.card.proofs.Places.{tally_le}
 
 -- the rows are let in one after the other
@@ -54,46 +54,46 @@ module _ (n : ℕ) (hi : n ≤ 64) where
   inside : (r : ℕ) → r < 2 ^ n → r < 2 ^ 64
   inside r h = le_trans h (pow-le-pow_right (omega arith) hi)
 
-  accept-group : (g rs : List ℕ) → Within n rs → length g + length rs ≤ 8 → Independent ((g ++ []) ++ rs) → Concur (g ++ rs)
+  accept_group : (g rs : List ℕ) → Within n rs → length g + length rs ≤ 8 → Independent ((g ++ []) ++ rs) → Concur (g ++ rs)
       → accepts Group (record { len = n; group = g; transform = []; coset = [] }) rs
   unfolding accepts
-  accept-group g [] w few ind con = tt
-  accept-group g (r ∷ rs) w few ind con =
+  accept_group g [] w few ind con = tt
+  accept_group g (r ∷ rs) w few ind con =
       let k : Card = record { len = n; group = g; transform = []; coset = [] } in
       let lt : r < 2 ^ n = w 0 (omega arith) in
       let one : (g ++ r ∷ []) ++ rs ≡ g ++ r ∷ rs = append_assoc g (r ∷ []) rs in (
-        verdict-ok k Group r (length g) refl (lt-leb (2 ^ n) r lt) (omega arith) (new_row (g ++ []) r rs ind)
+        verdict_ok k Group r (length g) refl (lt-leb (2 ^ n) r lt) (omega arith) (new_row (g ++ []) r rs ind)
             (concordant_from n (g ++ r ∷ []) (concur_prefix (g ++ r ∷ []) rs (subst Concur (sym one) con))),
         inside r lt,
-        accept-group (g ++ r ∷ []) rs (λ j h. w (suc j) (omega arith)) (omega (arith, length_push g r))
+        accept_group (g ++ r ∷ []) rs (λ j h. w (suc j) (omega arith)) (omega (arith, length_push g r))
             (subst Independent (ap (λ (l : List ℕ). l ++ r ∷ rs) (append-nil g) ∙ sym one ∙ ap (λ (l : List ℕ). l ++ rs) (sym (append-nil (g ++ r ∷ [])))) ind)
             (subst Concur (sym one) con),
       )
 
-  accept-transform : (g t rs : List ℕ) → Within n rs → length t + length rs ≤ 8 → Independent ((g ++ (t ++ [])) ++ rs)
+  accept_transform : (g t rs : List ℕ) → Within n rs → length t + length rs ≤ 8 → Independent ((g ++ (t ++ [])) ++ rs)
       → accepts Transform (record { len = n; group = g; transform = t; coset = [] }) rs
   unfolding accepts
-  accept-transform g t [] w few ind = tt
-  accept-transform g t (r ∷ rs) w few ind =
+  accept_transform g t [] w few ind = tt
+  accept_transform g t (r ∷ rs) w few ind =
       let k : Card = record { len = n; group = g; transform = t; coset = [] } in
       let lt : r < 2 ^ n = w 0 (omega arith) in
       let same : (g ++ (t ++ [])) ++ r ∷ rs ≡ (g ++ ((t ++ r ∷ []) ++ [])) ++ rs = simp (append-nil, append_assoc) in (
-        verdict-ok k Transform r (length t) refl (lt-leb (2 ^ n) r lt) (omega arith) (new_row (g ++ (t ++ [])) r rs ind) refl,
+        verdict_ok k Transform r (length t) refl (lt-leb (2 ^ n) r lt) (omega arith) (new_row (g ++ (t ++ [])) r rs ind) refl,
         inside r lt,
-        accept-transform g (t ++ r ∷ []) rs (λ j h. w (suc j) (omega arith)) (omega (arith, length_push t r)) (subst Independent same ind),
+        accept_transform g (t ++ r ∷ []) rs (λ j h. w (suc j) (omega arith)) (omega (arith, length_push t r)) (subst Independent same ind),
       )
 
-  accept-coset : (g t c rs : List ℕ) → Within n rs → length c + length rs ≤ 8 → Independent ((g ++ (t ++ c)) ++ rs)
+  accept_coset : (g t c rs : List ℕ) → Within n rs → length c + length rs ≤ 8 → Independent ((g ++ (t ++ c)) ++ rs)
       → accepts Coset (record { len = n; group = g; transform = t; coset = c }) rs
   unfolding accepts
-  accept-coset g t c [] w few ind = tt
-  accept-coset g t c (r ∷ rs) w few ind =
+  accept_coset g t c [] w few ind = tt
+  accept_coset g t c (r ∷ rs) w few ind =
       let k : Card = record { len = n; group = g; transform = t; coset = c } in
       let lt : r < 2 ^ n = w 0 (omega arith) in
       let same : (g ++ (t ++ c)) ++ r ∷ rs ≡ (g ++ (t ++ (c ++ r ∷ []))) ++ rs = simp append_assoc in (
-        verdict-ok k Coset r (length c) refl (lt-leb (2 ^ n) r lt) (omega arith) (new_row (g ++ (t ++ c)) r rs ind) refl,
+        verdict_ok k Coset r (length c) refl (lt-leb (2 ^ n) r lt) (omega arith) (new_row (g ++ (t ++ c)) r rs ind) refl,
         inside r lt,
-        accept-coset g t (c ++ r ∷ []) rs (λ j h. w (suc j) (omega arith)) (omega (arith, length_push c r)) (subst Independent same ind),
+        accept_coset g t (c ++ r ∷ []) rs (λ j h. w (suc j) (omega arith)) (omega (arith, length_push c r)) (subst Independent same ind),
       )
 
 -- the rows of a card, section by section, into a card just started
@@ -114,7 +114,7 @@ let_in k l =
     let w₂ = within_right n g (t ++ c) w in
     let ind₂ : Independent ((g ++ t) ++ c) = subst Independent (sym (append_assoc g t c)) ind in
     record {
-      group = accept-group n hi [] g (within_left n g (t ++ c) w) (omega (arith, l.few Group)) (independent_prefix g (t ++ c) ind) l.concurring;
-      transform = accept-transform n hi g [] t (within_left n t c w₂) (omega (arith, l.few Transform)) (subst (λ (l : List ℕ). Independent (l ++ t)) (sym (append-nil g)) (independent_prefix (g ++ t) c ind₂));
-      coset = accept-coset n hi g t [] c (within_right n t c w₂) (omega (arith, l.few Coset)) (subst (λ (l : List ℕ). Independent ((g ++ l) ++ c)) (sym (append-nil t)) ind₂);
+      group = accept_group n hi [] g (within_left n g (t ++ c) w) (omega (arith, l.few Group)) (independent_prefix g (t ++ c) ind) l.concurring;
+      transform = accept_transform n hi g [] t (within_left n t c w₂) (omega (arith, l.few Transform)) (subst (λ (l : List ℕ). Independent (l ++ t)) (sym (append-nil g)) (independent_prefix (g ++ t) c ind₂));
+      coset = accept_coset n hi g t [] c (within_right n t c w₂) (omega (arith, l.few Coset)) (subst (λ (l : List ℕ). Independent ((g ++ l) ++ c)) (sym (append-nil t)) ind₂);
     }

@@ -12,7 +12,7 @@ use Rattle.code.proofs.Spans.{independent_push}
 use Rattle.card.specs.Rows.{Within, Concur, dependent}
 use Rattle.card.specs.Cards.{Card, Lawful, Keeps, RowTold, blank, keeps, pushed, rows_of, section_of, max_section_rows, verdict}
 use Rattle.card.proofs.Decided.{dependent_from_span, span_from_dependent, concordant_from, concur_from_concordant}
-use Rattle.card.proofs.Tables.{within_push, within_left, verdict-dependent, verdict-concurrence, verdict-ok}
+use Rattle.card.proofs.Tables.{within_push, within_left, verdict_dependent, verdict_concurrence, verdict_ok}
 use Rattle.card_list.specs.declared.requests.Request.{Request}
 use Rattle.card_list.specs.declared.requests.Request.TheVariants.{AddRow, MoveOn}
 use Rattle.card_list.specs.declared.requests.Answer.{Answer}
@@ -84,12 +84,12 @@ module _ (k : Card) (s : Section) (row : ℕ) (a : Answer) (l : Lawful k) (last 
       let n = length (section_of k s) in
       let b = lt-leb (2 ^ k.len) row lt in
       elim (cases_Bool (dependent (rows_of k) row)) [
-        | inl t ↦ turned (DependentRow s n) (verdict-dependent k s row n refl b room t) (told.dependent lt room (span_from_dependent (rows_of k) row t)) refl
+        | inl t ↦ turned (DependentRow s n) (verdict_dependent k s row n refl b room t) (told.dependent lt room (span_from_dependent (rows_of k) row t)) refl
         | inr f ↦
             let out : Span (rows_of k) row → ⊥ = λ sp. both_ways (dependent (rows_of k) row) f (dependent_from_span (rows_of k) row sp) in
             elim (keeps-told k s row l lt) [
-              | inl (good, t) ↦ took (verdict-ok k s row n refl b room f t) (told.taken lt room out good) (lawful_pushed k s row l last lt room out good)
-              | inr (bad, t) ↦ turned (ConcurrenceBroken s n) (verdict-concurrence k s row n refl b room f t) (told.broken lt room out bad) refl
+              | inl (good, t) ↦ took (verdict_ok k s row n refl b room f t) (told.taken lt room out good) (lawful_pushed k s row l last lt room out good)
+              | inr (bad, t) ↦ turned (ConcurrenceBroken s n) (verdict_concurrence k s row n refl b room f t) (told.broken lt room out bad) refl
             ]
       ]
 
@@ -122,18 +122,18 @@ module _ (s : Section) (rest : List ℕ → List Request) (next : Reading → Re
   Follows : Type 0
   Follows = (k : Card) (bs : List ℕ) (ans : List Answer) → Lawful k → Last k s → OwnFrom (shown s k) (rest bs) ans → Agrees (next (record { card = k; left = bs })) (rest bs) ans
 
-  row-agrees : (n : ℕ) (k : Card) (row : ℕ) (bs : List ℕ) (a : Answer) (ans : List Answer) → Last k s
+  row_agrees : (n : ℕ) (k : Card) (row : ℕ) (bs : List ℕ) (a : Answer) (ans : List Answer) → Last k s
       → (Lawful (pushed k s row) → OwnFrom (shown s (pushed k s row)) (rows_asked rest n bs) ans
       → Agrees (on_ok (read_rows_lem s n (pushed k s row) bs) next) (rows_asked rest n bs) ans)
       → Outcome k s row a → OwnFrom (afterwards (shown s k) (AddRow row) a) (rows_asked rest n bs) ans
       → Agrees (on_ok (on_ok (verdict k s row) (λ _. read_rows_lem s n (pushed k s row) bs)) next) (AddRow row ∷ rows_asked rest n bs) (a ∷ ans)
   unfolding Agrees
-  row-agrees n k row bs a ans last more (took v is law) own =
+  row_agrees n k row bs a ans last more (took v is law) own =
       let rs = rows_asked rest n bs in
       ap (λ (x : Result (Unit {0}) Refusal). row_refusal (on_ok (on_ok x (λ _. read_rows_lem s n (pushed k s row) bs)) next)) (sym v)
       ∙ more law (subst (λ (w : View). OwnFrom w rs ans) (ap (λ (x : Answer). afterwards (shown s k) (AddRow row) x) is ∙ sym (shown-added k s row (Ok tt) last)) own)
       ∙ ap (λ (x : Answer). first_refused (AddRow row ∷ rs) (x ∷ ans)) (sym is)
-  row-agrees n k row bs a ans last more (turned e v is of) own =
+  row_agrees n k row bs a ans last more (turned e v is of) own =
       let rs = rows_asked rest n bs in
       ap (λ (x : Result (Unit {0}) Refusal). row_refusal (on_ok (on_ok x (λ _. read_rows_lem s n (pushed k s row) bs)) next)) (sym v)
       ∙ of
@@ -147,7 +147,7 @@ module _ (s : Section) (rest : List ℕ → List Request) (next : Reading → Re
   unfolding Agrees OwnFrom
   turn true n k row bs ans l last room more own = refl
   turn false n k row bs [] l last room more own = absurd own
-  turn false n k row bs (a ∷ ans) l last room more (due, own) = row-agrees n k row bs a ans last (more ans) (outcome k s row a l last room due) own
+  turn false n k row bs (a ∷ ans) l last room more (due, own) = row_agrees n k row bs a ans last (more ans) (outcome k s row a l last room due) own
 
   rows_agree : (n : ℕ) (k : Card) (bs : List ℕ) (ans : List Answer) → Follows → Lawful k → Last k s → length (section_of k s) + n ≤ max_section_rows
       → OwnFrom (shown s k) (rows_asked rest n bs) ans → Agrees (on_ok (read_rows_lem s n k bs) next) (rows_asked rest n bs) ans
@@ -158,18 +158,18 @@ module _ (s : Section) (rest : List ℕ → List Request) (next : Reading → Re
       turn (ltb (length bs) row_size) n k row (drop row_size bs) ans l last (omega arith)
       (λ q law own'. rows_agree n (pushed k s row) (drop row_size bs) q f law (last_pushed k s row last) (omega (arith, count-pushed k s row)) own') own
 
-  count-agrees : (b : Bool) (n : ℕ) (k : Card) (bs : List ℕ) (ans : List Answer) → leb n max_section_rows ≡ b → Follows → Lawful k → Last k s → length (section_of k s) ≡ 0
+  count_agrees : (b : Bool) (n : ℕ) (k : Card) (bs : List ℕ) (ans : List Answer) → leb n max_section_rows ≡ b → Follows → Lawful k → Last k s → length (section_of k s) ≡ 0
       → OwnFrom (shown s k) (cond b (rows_asked rest n bs) []) ans
       → Agrees (on_ok (cond b (read_rows_lem s n k bs) (Err (SectionFull s))) next) (cond b (rows_asked rest n bs) []) ans
   unfolding Agrees
-  count-agrees true n k bs ans e f l last none own = rows_agree n k bs ans f l last (omega (arith, leb-true n max_section_rows e)) own
-  count-agrees false n k bs ans e f l last none own = refl
+  count_agrees true n k bs ans e f l last none own = rows_agree n k bs ans f l last (omega (arith, leb-true n max_section_rows e)) own
+  count_agrees false n k bs ans e f l last none own = refl
 
-  section-agrees : (bs : List ℕ) (k : Card) (ans : List Answer) → Follows → Lawful k → Last k s → length (section_of k s) ≡ 0
+  section_agrees : (bs : List ℕ) (k : Card) (ans : List Answer) → Follows → Lawful k → Last k s → length (section_of k s) ≡ 0
       → OwnFrom (shown s k) (section_asked rest bs) ans → Agrees (on_ok (read_section_lem s k bs) next) (section_asked rest bs) ans
   unfolding Agrees
-  section-agrees [] k ans f l last none own = refl
-  section-agrees (n ∷ bs) k ans f l last none own = count-agrees (leb n max_section_rows) n k bs ans refl f l last none own
+  section_agrees [] k ans f l last none own = refl
+  section_agrees (n ∷ bs) k ans f l last none own = count_agrees (leb n max_section_rows) n k bs ans refl f l last none own
 
 -- ---- section after section
 
@@ -200,7 +200,7 @@ coset_agrees : (k : Card) (bs : List ℕ) (ans : List Answer) → Lawful k → k
     → Agrees (on_ok (read_section_lem Coset k bs) none_left) (coset_asked bs) ans
 unfolding Follows Agrees
 coset_agrees k bs ans l none own =
-    section-agrees Coset (λ _. []) none_left bs k ans (λ q ds x _ _ _. after_coset (record { card = q; left = ds })) l tt (none_length k.coset none) own
+    section_agrees Coset (λ _. []) none_left bs k ans (λ q ds x _ _ _. after_coset (record { card = q; left = ds })) l tt (none_length k.coset none) own
 
 transform_follows : Follows Transform (λ c. MoveOn ∷ coset_asked c) (λ t. on_ok (third t) none_left)
 unfolding Follows Agrees OwnFrom third
@@ -212,7 +212,7 @@ transform_follows k bs (a ∷ ans) l none (is, own) =
 transform_agrees : (k : Card) (bs : List ℕ) (ans : List Answer) → Lawful k → (k.transform ≡ []) × (k.coset ≡ []) → OwnFrom (shown Transform k) (transform_asked bs) ans
     → Agrees (on_ok (read_section_lem Transform k bs) (λ t. on_ok (third t) none_left)) (transform_asked bs) ans
 transform_agrees k bs ans l (nt, nc) own =
-    section-agrees Transform (λ c. MoveOn ∷ coset_asked c) (λ t. on_ok (third t) none_left) bs k ans transform_follows l nc (none_length k.transform nt) own
+    section_agrees Transform (λ c. MoveOn ∷ coset_asked c) (λ t. on_ok (third t) none_left) bs k ans transform_follows l nc (none_length k.transform nt) own
 
 group_follows : Follows Group (λ t. MoveOn ∷ transform_asked t) (λ g. on_ok (second g) none_left)
 unfolding Follows Agrees OwnFrom second
@@ -237,4 +237,4 @@ rows_as_added [] = tt
 rows_as_added (n ∷ bs) = λ answers sized l own.
     ap₂ (λ (x y : Bool). row_refusal (on_ok (cond (x && y) (on_ok (read_section_lem Group (blank n) bs) second) (Err LengthOutOfRange)) none_left)) (le-leb 1 n sized.0) (le-leb n 64 sized.1)
     ∙ ap row_refusal (on_ok_on (read_section_lem Group (blank n) bs) second none_left)
-    ∙ section-agrees Group (λ t. MoveOn ∷ transform_asked t) (λ g. on_ok (second g) none_left) bs (blank n) answers group_follows (blank_lawful n sized) (refl, refl) refl (own_from n (asked bs) answers l own)
+    ∙ section_agrees Group (λ t. MoveOn ∷ transform_asked t) (λ g. on_ok (second g) none_left) bs (blank n) answers group_follows (blank_lawful n sized) (refl, refl) refl (own_from n (asked bs) answers l own)

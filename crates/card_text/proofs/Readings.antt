@@ -23,9 +23,9 @@ line_is d line rest w q p ew er eq =
 -- ---- where lines end
 
 module _ (bytes : List ℕ) (i : ℕ) where
-  pub lines-break : (line : List ℕ) → i < length bytes → get_or bytes i 0 ≡ 10
+  pub lines_break : (line : List ℕ) → i < length bytes → get_or bytes i 0 ≡ 10
       → lines_from line (drop i bytes) ≡ line ∷ lines_from [] (drop (i + 1) bytes)
-  lines-break line h e =
+  lines_break line h e =
       at_drop_more (lines_from line) bytes i 0 h
       ∙ ap (λ (b : Bool). cond b (line ∷ lines_from [] (drop (i + 1) bytes)) (lines_from (line ++ get_or bytes i 0 ∷ []) (drop (i + 1) bytes))) (eq-eqb (get_or bytes i 0) 10 e)
 
@@ -36,8 +36,8 @@ module _ (bytes : List ℕ) (i : ℕ) where
       ∙ ap (λ (b : Bool). cond b (line ∷ lines_from [] (drop (i + 1) bytes)) (lines_from (line ++ get_or bytes i 0 ∷ []) (drop (i + 1) bytes))) (ne_eqb (get_or bytes i 0) 10 e)
 
   -- the line so far, with one byte more
-  pub part-more : (s : ℕ) → s ≤ i → i < length bytes → take (i + 1 - s) (drop s bytes) ≡ take (i - s) (drop s bytes) ++ get_or bytes i 0 ∷ []
-  part-more s le lt =
+  pub part_more : (s : ℕ) → s ≤ i → i < length bytes → take (i + 1 - s) (drop s bytes) ≡ take (i - s) (drop s bytes) ++ get_or bytes i 0 ∷ []
+  part_more s le lt =
       let m : i + 1 - s ≡ i - s + 1 = omega arith in
       let at : s + (i - s) ≡ i = omega arith in
       let inside : i - s < length (drop s bytes) = simp length-drop (omega arith) in
@@ -58,7 +58,7 @@ pub left_more : (bytes : List ℕ) (i s n : ℕ) (d : Stage) (whole : Result Car
 left_more bytes i s n d whole lt e l = record {
   begun = omega (arith, l.begun);
   counted = omega (arith, l.counted);
-  reads = ap (λ (x : List ℕ). lines_read d n (lines_from x (drop (i + 1) bytes))) (part-more bytes i s l.begun lt)
+  reads = ap (λ (x : List ℕ). lines_read d n (lines_from x (drop (i + 1) bytes))) (part_more bytes i s l.begun lt)
       ∙ sym (ap (lines_read d n) (lines_more bytes i (take (i - s) (drop s bytes)) lt e)) ∙ l.reads;
 }
 
@@ -74,7 +74,7 @@ left_break bytes i s n d e whole lt ten ok l =
       counted = omega (arith, l.counted);
       reads = ap (λ (m : ℕ). lines_read e (n + 1) (lines_from (take m (drop (i + 1) bytes)) (drop (i + 1) bytes))) none
           ∙ ap (λ (r : Result Stage TextFault). on_ok r (λ q. lines_read q (n + 1) rest)) ok
-          ∙ sym (ap (lines_read d n) (lines-break bytes i line lt ten)) ∙ l.reads;
+          ∙ sym (ap (lines_read d n) (lines_break bytes i line lt ten)) ∙ l.reads;
     }
 
 -- a line with a fault ends the reading
@@ -84,29 +84,29 @@ left_fault bytes i s n d f whole lt ten bad l =
     let line = take (i - s) (drop s bytes) in
     let rest = lines_from [] (drop (i + 1) bytes) in
     ap (λ (r : Result Stage TextFault). on_ok r (λ q. lines_read q (n + 1) rest)) bad
-    ∙ sym (ap (lines_read d n) (lines-break bytes i line lt ten)) ∙ l.reads
+    ∙ sym (ap (lines_read d n) (lines_break bytes i line lt ten)) ∙ l.reads
 
 -- ---- the last line
 
 module _ (bytes : List ℕ) (i s n : ℕ) (d : Stage) (whole : Result Card TextFault) (all : i ≡ length bytes) (l : Left bytes i s n d whole) where
-  last-read : Result Stage TextFault
-  last-read = in_line n (line_read d (trimmed (take (length bytes - s) (drop s bytes))))
+  last_read : Result Stage TextFault
+  last_read = in_line n (line_read d (trimmed (take (length bytes - s) (drop s bytes))))
 
   -- what the last line leaves is the whole
-  last-whole : on_ok last-read (λ e. in_line n (finished e)) ≡ whole
-  unfolding last-read
-  last-whole =
+  last_whole : on_ok last_read (λ e. in_line n (finished e)) ≡ whole
+  unfolding last_read
+  last_whole =
       let line = take (i - s) (drop s bytes) in
       let back : n + 1 - 1 ≡ n = omega arith in
       ap (λ (j : ℕ). on_ok (in_line n (line_read d (trimmed (take (j - s) (drop s bytes))))) (λ e. in_line n (finished e))) (sym all)
       ∙ ap (λ (m : ℕ). on_ok (in_line n (line_read d (trimmed line))) (λ e. in_line m (finished e))) (sym back)
       ∙ sym (ap (lines_read d n) (at_drop_all (lines_from line) bytes i (omega arith))) ∙ l.reads
 
-  pub last-fault : (f : TextFault) → Err f ≡ in_line n (line_read d (trimmed (take (length bytes - s) (drop s bytes)))) → Err f ≡ whole
-  unfolding last-read
-  last-fault f bad = ap (λ (r : Result Stage TextFault). on_ok r (λ e. in_line n (finished e))) bad ∙ last-whole
+  pub last_fault : (f : TextFault) → Err f ≡ in_line n (line_read d (trimmed (take (length bytes - s) (drop s bytes)))) → Err f ≡ whole
+  unfolding last_read
+  last_fault f bad = ap (λ (r : Result Stage TextFault). on_ok r (λ e. in_line n (finished e))) bad ∙ last_whole
 
   pub last_done : (e : Stage) (r : Result Card Problem) → Ok e ≡ in_line n (line_read d (trimmed (take (length bytes - s) (drop s bytes)))) → r ≡ finished e
       → in_line n r ≡ whole
-  unfolding last-read
-  last_done e r ok done = ap (in_line n) done ∙ ap (λ (q : Result Stage TextFault). on_ok q (λ x. in_line n (finished x))) ok ∙ last-whole
+  unfolding last_read
+  last_done e r ok done = ap (in_line n) done ∙ ap (λ (q : Result Stage TextFault). on_ok q (λ x. in_line n (finished x))) ok ∙ last_whole

@@ -106,35 +106,35 @@ module _ (n : ℕ) (o s : Section) (k : Card) (e : Stage) (rest : List ℕ) wher
   Taken : Type 0
   Taken = Goes (taking n o k) e (row_is s (row_of rest) ∷ [])
 
-  told-goes : (r : Result (Unit {0}) Refusal) → Later s k → told r n s k (row_of rest) ≡ Ok e → Taken
+  told_goes : (r : Result (Unit {0}) Refusal) → Later s k → told r n s k (row_of rest) ≡ Ok e → Taken
   unfolding Taken Sound stage_says
-  told-goes (Ok _) l h =
+  told_goes (Ok _) l h =
       let row = row_of rest in
       let is : taking n s (pushed k s row) ≡ e = cc in
       subst (λ (q : Stage). Goes (taking n o k) q (row_is s row ∷ [])) is (record { says = says_pushed s k row l; sound = later_pushed s k row l })
-  told-goes (Err x) l h = absurd (no_ok (Refused x) e h)
+  told_goes (Err x) l h = absurd (no_ok (Refused x) e h)
 
-  binary-goes : (f : Option ℕ) → Later s k → on_ok (binary_row s f rest) give ≡ Ok e → Taken
+  binary_goes : (f : Option ℕ) → Later s k → on_ok (binary_row s f rest) give ≡ Ok e → Taken
   unfolding give
-  binary-goes None l h = told-goes (verdict k s (row_of rest)) l h
-  binary-goes (Some p) l h = absurd (no_ok _ e h)
+  binary_goes None l h = told_goes (verdict k s (row_of rest)) l h
+  binary_goes (Some p) l h = absurd (no_ok _ e h)
 
-  count-goes : (b : Bool) → Later s k → on_ok (cond b (binary_row s (first_odd_lem 0 rest) rest) (Err (DigitCount s (length rest) n))) give ≡ Ok e → Taken
+  count_goes : (b : Bool) → Later s k → on_ok (cond b (binary_row s (first_odd_lem 0 rest) rest) (Err (DigitCount s (length rest) n))) give ≡ Ok e → Taken
   unfolding give
-  count-goes true l h = binary-goes (first_odd_lem 0 rest) l h
-  count-goes false l h = absurd (no_ok _ e h)
+  count_goes true l h = binary_goes (first_odd_lem 0 rest) l h
+  count_goes false l h = absurd (no_ok _ e h)
 
-  order-goes : (b : Bool) → ltb (rank s) (rank o) ≡ b → Later o k → on_ok (cond b (Err (SectionClosed s)) (Ok s)) (λ _. on_ok (row_read n s rest) give) ≡ Ok e → Taken
+  order_goes : (b : Bool) → ltb (rank s) (rank o) ≡ b → Later o k → on_ok (cond b (Err (SectionClosed s)) (Ok s)) (λ _. on_ok (row_read n s rest) give) ≡ Ok e → Taken
   unfolding give
-  order-goes true c l h = absurd (no_ok _ e h)
-  order-goes false c l h = count-goes (eqb (length rest) n) (later_moved o s k (ltb-false (rank s) (rank o) c) l) h
+  order_goes true c l h = absurd (no_ok _ e h)
+  order_goes false c l h = count_goes (eqb (length rest) n) (later_moved o s k (ltb-false (rank s) (rank o) c) l) h
 
 entry_goes : (q : Keyword) (d e : Stage) (rest : List ℕ) → Sound d → entry_read q d rest ≡ Ok e → Goes d e (said q rest)
 unfolding Sound give Taken
 entry_goes Length unset e rest l h = starts (decimal_of_lem rest) e h
 entry_goes Length (taking n o k) e rest l h = absurd (no_ok _ e h)
 entry_goes (Row s) unset e rest l h = absurd (no_ok _ e h)
-entry_goes (Row s) (taking n o k) e rest l h = order-goes n o s k e rest (ltb (rank s) (rank o)) refl l h
+entry_goes (Row s) (taking n o k) e rest l h = order_goes n o s k e rest (ltb (rank s) (rank o)) refl l h
 entry_goes Unknown d e rest l h = absurd (no_ok _ e h)
 
 line_goes : (b : Bool) (q : Keyword) (d e : Stage) (rest : List ℕ) → Sound d → cond b (Ok d) (entry_read q d rest) ≡ Ok e → Goes d e (cond b [] (said q rest))
@@ -146,14 +146,14 @@ line_goes false q d e rest l h = entry_goes q d e rest l h
 -- ---- all lines
 
 module _ (d : Stage) (i : ℕ) (line : List ℕ) (lines : List (List ℕ)) (k : Card) (sound : Sound d) where
-  one-says : (r : Result Stage Problem) → line_read d line ≡ r → on_ok (in_line i r) (λ e. lines_read e (i + 1) lines) ≡ Ok k
+  one_says : (r : Result Stage Problem) → line_read d line ≡ r → on_ok (in_line i r) (λ e. lines_read e (i + 1) lines) ≡ Ok k
       → ((e : Stage) → Sound e → lines_read e (i + 1) lines ≡ Ok k → stage_says e ++ lines_say lines ≡ card_says k)
       → stage_says d ++ (line_says line ++ lines_say lines) ≡ card_says k
-  one-says (Ok e) is h more =
+  one_says (Ok e) is h more =
       let g = line_goes (passed_over line) (keyword_of_lem (take (word_length_lem line) line)) d e (drop (word_length_lem line + 1) line) sound is in
       sym (append_assoc (stage_says d) (line_says line) (lines_say lines))
       ∙ ap (λ (x : List Saying). x ++ lines_say lines) (sym g.says) ∙ more e g.sound h
-  one-says (Err p) is h more = absurd (no_ok _ k h)
+  one_says (Err p) is h more = absurd (no_ok _ k h)
 
 lines_say-read : (lines : List (List ℕ)) (d : Stage) (i : ℕ) (k : Card) → Sound d → lines_read d i lines ≡ Ok k → stage_says d ++ lines_say lines ≡ card_says k
 unfolding stage_says
@@ -162,7 +162,7 @@ lines_say-read [] (taking n o q) i k l h =
     let is : q ≡ k = cc in
     append-nil (card_says q) ∙ ap card_says is
 lines_say-read (line ∷ lines) d i k l h =
-    one-says d i (trimmed line) lines k l (line_read d (trimmed line)) refl h (λ e m g. lines_say-read lines e (i + 1) k m g)
+    one_says d i (trimmed line) lines k l (line_read d (trimmed line)) refl h (λ e m g. lines_say-read lines e (i + 1) k m g)
 
 pub text_says-read : (bytes : List ℕ) (k : Card) → read_text_lem bytes ≡ Ok k → text_says bytes ≡ card_says k
 unfolding stage_says Sound

@@ -38,14 +38,14 @@ module _ (rows : List ℕ) (i sum rest m : ℕ) (within : i < length rows) (so_f
   opened : bit_xor sum (bit_xor (rest % 2 * get_or rows i 0) (codeword (drop (i + 1) rows) (rest / 2))) ≡ codeword rows m
   opened = sym (ap (λ (l : List ℕ). bit_xor sum (codeword l rest)) (drop_more rows i 0 within)) ∙ so_far
 
-  pub sum-skips : (rest % 2 ≡ 1 → ⊥) → bit_xor sum (codeword (drop (i + 1) rows) (rest / 2)) ≡ codeword rows m
-  sum-skips even =
+  pub sum_skips : (rest % 2 ≡ 1 → ⊥) → bit_xor sum (codeword (drop (i + 1) rows) (rest / 2)) ≡ codeword rows m
+  sum_skips even =
       let z : rest % 2 ≡ 0 = omega arith in
       let none : rest % 2 * get_or rows i 0 ≡ 0 = ap (λ (d : ℕ). d * get_or rows i 0) z ∙ zero-mul (get_or rows i 0) in
       sym (ap (λ (x : ℕ). bit_xor sum (bit_xor x (codeword (drop (i + 1) rows) (rest / 2)))) none ∙ ap (bit_xor sum) (xor_zero_l _)) ∙ opened
 
-  pub sum-takes : rest % 2 ≡ 1 → bit_xor (bit_xor sum (get_or rows i 0)) (codeword (drop (i + 1) rows) (rest / 2)) ≡ codeword rows m
-  sum-takes one =
+  pub sum_takes : rest % 2 ≡ 1 → bit_xor (bit_xor sum (get_or rows i 0)) (codeword (drop (i + 1) rows) (rest / 2)) ≡ codeword rows m
+  sum_takes one =
       let row : rest % 2 * get_or rows i 0 ≡ get_or rows i 0 = ap (λ (d : ℕ). d * get_or rows i 0) one ∙ one-mul (get_or rows i 0) in
       xor_assoc sum (get_or rows i 0) (codeword (drop (i + 1) rows) (rest / 2))
       ∙ sym (ap (λ (x : ℕ). bit_xor sum (bit_xor x (codeword (drop (i + 1) rows) (rest / 2)))) row)

@@ -16,8 +16,8 @@ module _ (f : ℕ → ℤ) where
       omega (arith, a, c)
 
   -- functions that are equal below the limit have the same top
-  pub top-same : (g : ℕ → ℤ) (b m : ℕ) → ((j : ℕ) → j < b → f j ≡ g j) → Top f b m → Top g b m
-  top-same g b m e t =
+  pub top_same : (g : ℕ → ℤ) (b m : ℕ) → ((j : ℕ) → j < b → f j ≡ g j) → Top f b m → Top g b m
+  top_same g b m e t =
       let em = e m t.within in
       record {
         within = t.within;
@@ -26,8 +26,8 @@ module _ (f : ℕ → ℤ) where
       }
 
   -- of two ranges, one after the other, the second has a greater value
-  pub top-takes : (a b m n : ℕ) → Top f a m → Top (λ j. f (j + a)) b n → f m <ℤ f (n + a) → Top f (a + b) (n + a)
-  top-takes a b m n t u h =
+  pub top_takes : (a b m n : ℕ) → Top f a m → Top (λ j. f (j + a)) b n → f m <ℤ f (n + a) → Top f (a + b) (n + a)
+  top_takes a b m n t u h =
       record {
         within = let w = u.within in omega arith;
         greatest = λ j k. by_below j a
@@ -39,8 +39,8 @@ module _ (f : ℕ → ℤ) where
       }
 
   -- or has none
-  pub top-keeps : (a b m n : ℕ) → Top f a m → Top (λ j. f (j + a)) b n → f (n + a) ≤ℤ f m → Top f (a + b) m
-  top-keeps a b m n t u h =
+  pub top_keeps : (a b m n : ℕ) → Top f a m → Top (λ j. f (j + a)) b n → f (n + a) ≤ℤ f m → Top f (a + b) m
+  top_keeps a b m n t u h =
       record {
         within = let w = t.within in omega arith;
         greatest = λ j k. by_below j a

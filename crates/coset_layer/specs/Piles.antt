@@ -112,15 +112,15 @@ two_piles n below rows few room w =
 
 -- a list cut at the end of its first four
 module _ (rows : List ℕ) (end : ℕ) (m : end ≡ min (length rows) layer_rows) where
-  pub first-four : take layer_rows (take (end - 0) rows) ≡ take layer_rows rows
-  first-four =
+  pub first_four : take layer_rows (take (end - 0) rows) ≡ take layer_rows rows
+  first_four =
       ⊎_elim
       (λ (l : layer_rows < length rows). let e : end - 0 ≡ layer_rows = omega arith in ap (λ (k : ℕ). take layer_rows (take k rows)) e ∙ take-take layer_rows layer_rows rows (omega arith))
       (λ l. let e : length rows ≤ end - 0 = omega arith in ap (take layer_rows) (take_all (end - 0) rows e))
       (cases_lt layer_rows (length rows))
 
-  pub last-four : take layer_rows (take (length rows - end) (drop end rows)) ≡ take layer_rows (drop layer_rows rows)
-  last-four =
+  pub last_four : take layer_rows (take (length rows - end) (drop end rows)) ≡ take layer_rows (drop layer_rows rows)
+  last_four =
       let d = length-drop end rows in
       ap (take layer_rows) (take_all (length rows - end) (drop end rows) (omega arith))
       ∙ ⊎_elim

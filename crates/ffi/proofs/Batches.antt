@@ -26,17 +26,17 @@ module _ (n : ℕ) (rows : List ℕ) (need : ℕ) (word work after : List Level)
   why : Option Refusal
   why = refusal n need (map level_size word) (length work)
 
-  pub to-answer : (r : Result (Found Level) Refusal)
+  pub to_answer : (r : Result (Found Level) Refusal)
       → MatchResult r (λ f. Answered level_weight level_size n rows need word work after f.message f.reading) (λ e. Refused level_size n need word work after e)
       → MatchResult r (λ f. (a.refusal ≡ 0) × (a.message ≡ f.message) × (a.agreement ≡ level_weight f.reading)) (λ e. a ≡ refused e)
       → WordSearched n rows need word work after a
-  to-answer (Ok f) h k = record {
+  to_answer (Ok f) h k = record {
     answer = subst (λ (o : Option Refusal). AnswerTo rows (map level_weight word) o a) (sym h.taken)
         (k.0, subst (Best rows (map level_weight word)) (sym k.1) h.is_best, k.2 ∙ h.weighs ∙ ap (agrees rows (map level_weight word)) (sym k.1));
     beyond = h.beyond;
     untouched = λ no. elim (no h.taken) [ ];
   }
-  to-answer (Err e) h k = record {
+  to_answer (Err e) h k = record {
     answer = subst (λ (o : Option Refusal). AnswerTo rows (map level_weight word) o a) (sym h.reason) k;
     beyond = ap (drop need) h.untouched;
     untouched = λ _. h.untouched;

@@ -25,8 +25,8 @@ module _ {R : Type 0} (weight : R → ℤ) (size : R → ℕ) (slots : List ℕ)
       sym (one_more x ∙ ap (λ z. old x +ℤ z) (cond-false (eqb at x) (weight_at weight word i) (pos 0) (ne_eqb at x (λ e. n (sym e)))) ∙ +ℤ_idr (old x))
 
   -- a slot beyond the list
-  pub fold-skips : length cur ≤ get_or slots i 0 → Sums cur i → Sums cur (i + 1)
-  fold-skips high inv x l = inv x l ∙ elsewhere x (omega arith)
+  pub fold_skips : length cur ≤ get_or slots i 0 → Sums cur i → Sums cur (i + 1)
+  fold_skips high inv x l = inv x l ∙ elsewhere x (omega arith)
 
   module _ (v : R) (low : get_or slots i 0 < length cur) where
     pub fold_step : Sums cur i → weight v ≡ weight_at weight cur (get_or slots i 0) +ℤ weight_at weight word i → (x : ℕ) → x < length cur → weight_at weight (set cur (get_or slots i 0) v) x ≡ sum_of_slot (λ k. get_or slots k 0) (weight_at weight word) (i + 1) x
@@ -41,8 +41,8 @@ module _ {R : Type 0} (weight : R → ℤ) (size : R → ℕ) (slots : List ℕ)
         (λ n. other_at weight cur at x v (pos 0) n ∙ inv x l ∙ elsewhere x n)
         (cases_eq x at)
 
-    pub total-step : (old : R) → old ≡ get_or cur (get_or slots i 0) old → (r : ℕ) → size v ≤ size old + r → r ≤ size_limit → sum_by size cur ≤ i * size_limit → sum_by size (set cur (get_or slots i 0) v) ≤ (i + 1) * size_limit
-    total-step old is r a b c =
+    pub total_step : (old : R) → old ≡ get_or cur (get_or slots i 0) old → (r : ℕ) → size v ≤ size old + r → r ≤ size_limit → sum_by size cur ≤ i * size_limit → sum_by size (set cur (get_or slots i 0) v) ≤ (i + 1) * size_limit
+    total_step old is r a b c =
         let e = sum_by-set size cur (get_or slots i 0) v old low in
         let f = ap size is in
         omega arith

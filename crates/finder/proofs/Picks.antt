@@ -18,15 +18,15 @@ pub not_less : (a b : ℤ) → lt_z a b ≡ false → b ≤ℤ a
 not_less a b h = grind (arith, ints)
 
 module _ (f : ℕ → ℤ) (i m : ℕ) (t : Top f i m) where
-  pub largest-takes : f m <ℤ f i → Top f (i + 1) i
-  largest-takes h = record {
+  pub largest_takes : f m <ℤ f i → Top f (i + 1) i
+  largest_takes h = record {
     within = omega arith;
     greatest = λ j l. ⊎_elim (λ k. let x = t.greatest j k in omega (arith, ints)) (λ k. let e : j ≡ i = omega arith in subst (λ (x : ℕ). f x ≤ℤ f i) (sym e) (≤ℤ_refl (f i))) (cases_lt j i);
     smallest = λ j l. let x = t.greatest j l in omega (arith, ints);
   }
 
-  pub largest-keeps : f i ≤ℤ f m → Top f (i + 1) m
-  largest-keeps h = record {
+  pub largest_keeps : f i ≤ℤ f m → Top f (i + 1) m
+  largest_keeps h = record {
     within = let w = t.within in omega arith;
     greatest = λ j l. ⊎_elim (λ k. t.greatest j k) (λ k. let e : j ≡ i = omega arith in subst (λ (x : ℕ). f x ≤ℤ f m) (sym e) h) (cases_lt j i);
     smallest = t.smallest;

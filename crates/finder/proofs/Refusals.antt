@@ -17,24 +17,24 @@ abbrev pub memory : ℕ → ℕ → Option Refusal
 memory need have = cond (leb need have) None (Some WorkMemoryShort)
 
 module _ (n need : ℕ) (sizes : List ℕ) (have : ℕ) where
-  pub wrong-length : (length sizes ≡ n → ⊥) → refusal n need sizes have ≡ Some WordLengthDiffers
+  pub wrong_length : (length sizes ≡ n → ⊥) → refusal n need sizes have ≡ Some WordLengthDiffers
   unfolding refusal
-  wrong-length h = cond-false (eqb (length sizes) n) _ _ (ne_eqb (length sizes) n h)
+  wrong_length h = cond-false (eqb (length sizes) n) _ _ (ne_eqb (length sizes) n h)
 
-  pub right-length : length sizes ≡ n → refusal n need sizes have ≡ large_from 0 sizes (memory need have)
+  pub right_length : length sizes ≡ n → refusal n need sizes have ≡ large_from 0 sizes (memory need have)
   unfolding refusal
-  right-length h = cond-true (eqb (length sizes) n) _ _ (eq-eqb (length sizes) n h)
+  right_length h = cond-true (eqb (length sizes) n) _ _ (eq-eqb (length sizes) n h)
 
 -- one size more
 module _ (sizes : List ℕ) (after : Option Refusal) (i : ℕ) where
-  pub size-passes : i < length sizes → get_or sizes i 0 ≤ size_limit → large_from (i + 1) (drop (i + 1) sizes) after ≡ large_from i (drop i sizes) after
-  size-passes low h = sym (ap (λ (l : List ℕ). large_from i l after) (drop_more sizes i 0 low) ∙ cond-true (leb (get_or sizes i 0) size_limit) _ _ (le-leb (get_or sizes i 0) size_limit h))
+  pub size_passes : i < length sizes → get_or sizes i 0 ≤ size_limit → large_from (i + 1) (drop (i + 1) sizes) after ≡ large_from i (drop i sizes) after
+  size_passes low h = sym (ap (λ (l : List ℕ). large_from i l after) (drop_more sizes i 0 low) ∙ cond-true (leb (get_or sizes i 0) size_limit) _ _ (le-leb (get_or sizes i 0) size_limit h))
 
-  pub size-stops : i < length sizes → size_limit < get_or sizes i 0 → large_from i (drop i sizes) after ≡ Some (SizeTooLarge i)
-  size-stops low h = ap (λ (l : List ℕ). large_from i l after) (drop_more sizes i 0 low) ∙ cond-false (leb (get_or sizes i 0) size_limit) _ _ (lt-leb (get_or sizes i 0) size_limit h)
+  pub size_stops : i < length sizes → size_limit < get_or sizes i 0 → large_from i (drop i sizes) after ≡ Some (SizeTooLarge i)
+  size_stops low h = ap (λ (l : List ℕ). large_from i l after) (drop_more sizes i 0 low) ∙ cond-false (leb (get_or sizes i 0) size_limit) _ _ (lt-leb (get_or sizes i 0) size_limit h)
 
-  pub sizes-pass : length sizes ≤ i → large_from i (drop i sizes) after ≡ after
-  sizes-pass h = ap (λ (l : List ℕ). large_from i l after) (drop_all i sizes h)
+  pub sizes_pass : length sizes ≤ i → large_from i (drop i sizes) after ≡ after
+  sizes_pass h = ap (λ (l : List ℕ). large_from i l after) (drop_all i sizes h)
 
 pub memory_short : (need have : ℕ) → have < need → memory need have ≡ Some WorkMemoryShort
 memory_short need have h = cond-false (leb need have) _ _ (lt-leb need have h)
@@ -55,9 +55,9 @@ pub taken_facts : (n need : ℕ) (sizes : List ℕ) (have : ℕ) → refusal n n
 taken_facts n need sizes have e =
     ⊎_elim
     (λ t.
-    let r = large_none 0 sizes (memory need have) (sym (right-length n need sizes have t.1) ∙ e) in
+    let r = large_none 0 sizes (memory need have) (sym (right_length n need sizes have t.1) ∙ e) in
     (t.1, r.0, ⊎_elim (λ u. u.1) (λ u. absurd (some_none WorkMemoryShort (sym (cond-false (leb need have) _ _ u.0) ∙ r.1))) (leb_tells need have)))
-    (λ t. absurd (some_none WordLengthDiffers (sym (wrong-length n need sizes have t.1) ∙ e)))
+    (λ t. absurd (some_none WordLengthDiffers (sym (wrong_length n need sizes have t.1) ∙ e)))
     (eqb_tells (length sizes) n)
 
 pub all_sizes : {R : Type 0} (size : R → ℕ) (xs : List R) → All (λ s. s ≤ size_limit) (map size xs) → All (λ x. size x ≤ size_limit) xs

@@ -25,8 +25,8 @@ transform_taken r A B n s t l e h v x = subst (outcome A B) (v ∙ sym (verdict-
 module _ {R : Type 0} (weight : R → ℤ) (size : R → ℕ) (rows slots : List ℕ) (word list final : List R) (few : length rows ≤ column_rows) (room : length list ≡ 2 ^ length rows)
     (cols : (i : ℕ) → i < length word → slice_index slots i ≡ column (take column_rows rows) i)
     (sums : (x : ℕ) → x < length list → weight_at weight list x ≡ sum_of_slot (λ i. slice_index slots i) (weight_at weight word) (length word) x) where
-  pub holds-agreements : Transformed weight size list final → (m : ℕ) → m < 2 ^ length rows → weight_at weight final m ≡ agrees rows (map weight word) m
-  holds-agreements t m l =
+  pub holds_agreements : Transformed weight size list final → (m : ℕ) → m < 2 ^ length rows → weight_at weight final m ≡ agrees rows (map weight word) m
+  holds_agreements t m l =
       let n = length-map word weight in
       let k = length-map list weight in
       let whole : take column_rows rows ≡ rows = take_all column_rows rows few in

@@ -6,17 +6,17 @@ use Rattle.std.proofs.lemmas.Int.{ints, by_lt_z}
 use Rattle.std.proofs.lemmas.Nat.{one_shl}
 use Rattle.code.specs.Words.{Top}
 use Rattle.group_finder.specs.Choices.{TopOf, signs, of_parity, totalled, choice_value, Extended, Chosen, ByParity}
-use Rattle.group_finder.proofs.Parities.{row_keeps, row-takes, first_even, first_odd, value_even, value_odd, best-even, best-odd}
+use Rattle.group_finder.proofs.Parities.{row_keeps, row_takes, first_even, first_odd, value_even, value_odd, best_even, best_odd}
 use Rattle.group_finder.proofs.Sizes.{totalled_le}
 
 module _ {R : Type 0} (weight : R → ℤ) (size : R → ℕ) (S : ℕ → ℤ) (bulk : ℕ → ℕ) (j : ℕ) (s : R) (ws : weight s ≡ S j) (zs : size s ≡ bulk j) (bit : ℕ) (eb : bit ≡ 2 ^ j) where
-  one-row : (p : Bool) (m : ℕ) (a : R) (n : ℕ) (b : R) (k : ℕ) (r : R) → TopOf (of_parity p) (signs S j) (2 ^ j) m → TopOf (of_parity (not p)) (signs S j) (2 ^ j) n → weight a ≡ signs S j m → weight b ≡ signs S j n
+  one_row : (p : Bool) (m : ℕ) (a : R) (n : ℕ) (b : R) (k : ℕ) (r : R) → TopOf (of_parity p) (signs S j) (2 ^ j) m → TopOf (of_parity (not p)) (signs S j) (2 ^ j) n → weight a ≡ signs S j m → weight b ≡ signs S j n
       → Extended weight size m a n b s bit k r → TopOf (of_parity p) (signs S (j + 1)) (2 ^ (j + 1)) k × (weight r ≡ signs S (j + 1) k)
-  one-row p m a n b k r t u wa wb e =
+  one_row p m a n b k r t u wa wb e =
       by_lt_z (weight a +ℤ weight s) (weight b +ℤ neg_ℤ (weight s))
       (λ h.
       let x = e.takes h in
-      let y = row-takes S p j m n t u (omega (arith, ints)) in
+      let y = row_takes S p j m n t u (omega (arith, ints)) in
       let kn : k ≡ n + 2 ^ j = x.0 ∙ ap (λ (z : ℕ). n + z) eb in (
         subst (λ (z : ℕ). TopOf (of_parity p) (signs S (j + 1)) (2 ^ (j + 1)) z) (sym kn) y.0,
         x.1 ∙ ap₂ (λ u v. u +ℤ neg_ℤ v) wb ws ∙ sym y.1 ∙ ap (signs S (j + 1)) (sym kn),
@@ -28,10 +28,10 @@ module _ {R : Type 0} (weight : R → ℤ) (size : R → ℕ) (S : ℕ → ℤ) 
         x.1 ∙ ap₂ (λ u v. u +ℤ v) wa ws ∙ sym y.1 ∙ ap (signs S (j + 1)) (sym x.0),
       ))
 
-  pub parity-step : (m : ℕ) (a : R) (n : ℕ) (b : R) → ByParity weight size S bulk j m a n b → (k : ℕ) (r : R) (l : ℕ) (q : R) → Extended weight size m a n b s bit k r → Extended weight size n b m a s bit l q → ByParity weight size S bulk (j + 1) k r l q
-  parity-step m a n b inv k r l q e f =
-      let x = one-row false m a n b k r inv.even inv.odd inv.even_weighs inv.odd_weighs e in
-      let y = one-row true n b m a l q inv.odd inv.even inv.odd_weighs inv.even_weighs f in
+  pub parity_step : (m : ℕ) (a : R) (n : ℕ) (b : R) → ByParity weight size S bulk j m a n b → (k : ℕ) (r : R) (l : ℕ) (q : R) → Extended weight size m a n b s bit k r → Extended weight size n b m a s bit l q → ByParity weight size S bulk (j + 1) k r l q
+  parity_step m a n b inv k r l q e f =
+      let x = one_row false m a n b k r inv.even inv.odd inv.even_weighs inv.odd_weighs e in
+      let y = one_row true n b m a l q inv.odd inv.even inv.odd_weighs inv.even_weighs f in
       let t : totalled (j + 1) bulk ≡ totalled j bulk + bulk j = ap (λ (i : ℕ). totalled i bulk) (add-one j) in
       let p = e.small in
       let o = f.small in
@@ -39,8 +39,8 @@ module _ {R : Type 0} (weight : R → ℤ) (size : R → ℕ) (S : ℕ → ℤ) 
       let os = inv.odd_small in
       record { even = x.0; odd = y.0; even_weighs = x.1; odd_weighs = y.1; even_small = omega arith; odd_small = omega arith }
 
-  pub parity-room : (count m : ℕ) (a : R) (n : ℕ) (b : R) → ByParity weight size S bulk j m a n b → j < count → totalled count bulk ≤ sum_limit → max (size a) (size b) + size s ≤ sum_limit
-  parity-room count m a n b inv h room =
+  pub parity_room : (count m : ℕ) (a : R) (n : ℕ) (b : R) → ByParity weight size S bulk j m a n b → j < count → totalled count bulk ≤ sum_limit → max (size a) (size b) + size s ≤ sum_limit
+  parity_room count m a n b inv h room =
       let t : totalled (j + 1) bulk ≡ totalled j bulk + bulk j = ap (λ (i : ℕ). totalled i bulk) (add-one j) in
       let l = totalled_le bulk (j + 1) count (omega arith) in
       let es = inv.even_small in
@@ -69,9 +69,9 @@ module _ {R : Type 0} (weight : R → ℤ) (size : R → ℕ) (w : ℕ → ℤ) 
       let ed : weight down ≡ signs (λ i. w (i + 1)) J n +ℤ neg_ℤ (w (J + 1)) = wd ∙ ap (λ z. z +ℤ neg_ℤ (w (J + 1))) inv.odd_weighs in
       ⊎_elim
       (λ h.
-      let x = best-even w J m n inv.even inv.odd (weight up) (weight down) eu ed h.2 in
+      let x = best_even w J m n inv.even inv.odd (weight up) (weight down) eu ed h.2 in
       (subst (λ (z : ℕ). Top (choice_value w J) (2 ^ J) z) (sym h.0) x.0, wr ∙ ap (λ z. w 0 +ℤ weight z) h.1 ∙ sym x.1 ∙ ap (choice_value w J) (sym h.0)))
       (λ h.
-      let x = best-odd w J m n inv.even inv.odd (weight up) (weight down) eu ed h.2 in
+      let x = best_odd w J m n inv.even inv.odd (weight up) (weight down) eu ed h.2 in
       (subst (λ (z : ℕ). Top (choice_value w J) (2 ^ J) z) (sym h.0) x.0, wr ∙ ap (λ z. w 0 +ℤ weight z) h.1 ∙ sym x.1 ∙ ap (choice_value w J) (sym h.0)))
       c

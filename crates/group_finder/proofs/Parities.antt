@@ -20,8 +20,8 @@ module _ (P Q : ℕ → Bool) (f : ℕ → ℤ) (a b m n : ℕ) (same : (i : ℕ
   moved : (j i : ℕ) → j ≡ i + a → i < b → P j ≡ true → Q i ≡ true
   moved j i e k p = same i k ∙ ap P (sym e) ∙ p
 
-  pub of-keeps : f (n + a) ≤ℤ f m → TopOf P f (a + b) m
-  of-keeps h = record {
+  pub of_keeps : f (n + a) ≤ℤ f m → TopOf P f (a + b) m
+  of_keeps h = record {
     within = let w = t.within in omega arith;
     admitted = t.admitted;
     greatest = λ j k p. by_below j a
@@ -30,8 +30,8 @@ module _ (P Q : ℕ → Bool) (f : ℕ → ℤ) (a b m n : ℕ) (same : (i : ℕ
     smallest = t.smallest;
   }
 
-  pub of-takes : f m <ℤ f (n + a) → TopOf P f (a + b) (n + a)
-  of-takes h = record {
+  pub of_takes : f m <ℤ f (n + a) → TopOf P f (a + b) (n + a)
+  of_takes h = record {
     within = let w = u.within in omega arith;
     admitted = sym (same n u.within) ∙ u.admitted;
     greatest = λ j k p. by_below j a
@@ -66,8 +66,8 @@ module _ (P : ℕ → Bool) (f : ℕ → ℤ) (b m n : ℕ) (t : TopOf (λ s. no
         ⊎_elim (λ k. omega (arith, ints)) (λ k. let y = k.0 in let z = k.1 in let ln : j < n = omega arith in let v = u.smallest j ln p in omega (arith, ints)) h);
   }
 
-  pub join-second : (f m <ℤ f n) ⊎ ((f m ≤ℤ f n) × (n ≤ m)) → Top f b n
-  join-second h = record {
+  pub join_second : (f m <ℤ f n) ⊎ ((f m ≤ℤ f n) × (n ≤ m)) → Top f b n
+  join_second h = record {
     within = u.within;
     greatest = λ j l. by_side j (λ p. let x = t.greatest j l p in ⊎_elim (λ k. omega (arith, ints)) (λ k. let y = k.0 in omega (arith, ints)) h) (λ p. u.greatest j l p);
     smallest = λ j l. by_side j (λ p. let w = u.within in let lb : j < b = omega arith in let x = t.greatest j lb p in
@@ -132,22 +132,22 @@ module _ (S : ℕ → ℤ) (p : Bool) (j m n : ℕ) (t : TopOf (of_parity p) (si
   value_low : signs S (j + 1) m ≡ signs S j m +ℤ S j
   value_low = ap (λ (k : ℕ). signs S k m) (add-one j) ∙ signs_low S j m t.within
 
-  value-high : signs S (j + 1) (n + 2 ^ j) ≡ signs S j n +ℤ neg_ℤ (S j)
-  value-high = ap (λ (k : ℕ). signs S k (n + 2 ^ j)) (add-one j) ∙ signs_high S j n u.within
+  value_high : signs S (j + 1) (n + 2 ^ j) ≡ signs S j n +ℤ neg_ℤ (S j)
+  value_high = ap (λ (k : ℕ). signs S k (n + 2 ^ j)) (add-one j) ∙ signs_high S j n u.within
 
   pub row_keeps : (signs S j n +ℤ neg_ℤ (S j)) ≤ℤ (signs S j m +ℤ S j) → TopOf (of_parity p) (signs S (j + 1)) (2 ^ (j + 1)) m × (signs S (j + 1) m ≡ signs S j m +ℤ S j)
   row_keeps h =
       let a = signs_low S j m t.within in
       let b = signs_high S j n u.within in
       let k : signs S (suc j) (n + 2 ^ j) ≤ℤ signs S (suc j) m = omega (arith, ints) in
-      (put m (of-keeps (of_parity p) (of_parity (not p)) (signs S (suc j)) (2 ^ j) (2 ^ j) m n (λ i l. parity-flips p j i l) low high k), value_low)
+      (put m (of_keeps (of_parity p) (of_parity (not p)) (signs S (suc j)) (2 ^ j) (2 ^ j) m n (λ i l. parity-flips p j i l) low high k), value_low)
 
-  pub row-takes : (signs S j m +ℤ S j) <ℤ (signs S j n +ℤ neg_ℤ (S j)) → TopOf (of_parity p) (signs S (j + 1)) (2 ^ (j + 1)) (n + 2 ^ j) × (signs S (j + 1) (n + 2 ^ j) ≡ signs S j n +ℤ neg_ℤ (S j))
-  row-takes h =
+  pub row_takes : (signs S j m +ℤ S j) <ℤ (signs S j n +ℤ neg_ℤ (S j)) → TopOf (of_parity p) (signs S (j + 1)) (2 ^ (j + 1)) (n + 2 ^ j) × (signs S (j + 1) (n + 2 ^ j) ≡ signs S j n +ℤ neg_ℤ (S j))
+  row_takes h =
       let a = signs_low S j m t.within in
       let b = signs_high S j n u.within in
       let k : signs S (suc j) m <ℤ signs S (suc j) (n + 2 ^ j) = omega (arith, ints) in
-      (put (n + 2 ^ j) (of-takes (of_parity p) (of_parity (not p)) (signs S (suc j)) (2 ^ j) (2 ^ j) m n (λ i l. parity-flips p j i l) low high k), value-high)
+      (put (n + 2 ^ j) (of_takes (of_parity p) (of_parity (not p)) (signs S (suc j)) (2 ^ j) (2 ^ j) m n (λ i l. parity-flips p j i l) low high k), value_high)
 
 -- one row
 parity_0 : parity 0 ≡ false
@@ -185,32 +185,32 @@ value_odd S = +ℤ_idl (neg_ℤ (S 0))
 
 -- F and M
 module _ (w : ℕ → ℤ) (J : ℕ) where
-  even-value : (s : ℕ) → parity s ≡ false → choice_value w J s ≡ signs (λ i. w (i + 1)) J s +ℤ (w 0 +ℤ w (J + 1))
-  even-value s p = ap (λ (b : Bool). w 0 +ℤ (signs (λ i. w (i + 1)) J s +ℤ negated_if b (w (J + 1)))) p ∙ omega (arith, ints)
+  even_value : (s : ℕ) → parity s ≡ false → choice_value w J s ≡ signs (λ i. w (i + 1)) J s +ℤ (w 0 +ℤ w (J + 1))
+  even_value s p = ap (λ (b : Bool). w 0 +ℤ (signs (λ i. w (i + 1)) J s +ℤ negated_if b (w (J + 1)))) p ∙ omega (arith, ints)
 
-  odd-value : (s : ℕ) → parity s ≡ true → choice_value w J s ≡ signs (λ i. w (i + 1)) J s +ℤ (w 0 +ℤ neg_ℤ (w (J + 1)))
-  odd-value s p = ap (λ (b : Bool). w 0 +ℤ (signs (λ i. w (i + 1)) J s +ℤ negated_if b (w (J + 1)))) p ∙ omega (arith, ints)
+  odd_value : (s : ℕ) → parity s ≡ true → choice_value w J s ≡ signs (λ i. w (i + 1)) J s +ℤ (w 0 +ℤ neg_ℤ (w (J + 1)))
+  odd_value s p = ap (λ (b : Bool). w 0 +ℤ (signs (λ i. w (i + 1)) J s +ℤ negated_if b (w (J + 1)))) p ∙ omega (arith, ints)
 
   module _ (m n : ℕ) (t : TopOf (of_parity false) (signs (λ i. w (i + 1)) J) (2 ^ J) m) (u : TopOf (of_parity true) (signs (λ i. w (i + 1)) J) (2 ^ J) n) where
-    all-even : TopOf (λ s. not (parity s)) (choice_value w J) (2 ^ J) m
-    all-even = of_shift (of_parity false) (signs (λ i. w (i + 1)) J) (choice_value w J) (w 0 +ℤ w (J + 1)) (2 ^ J) m (λ i _ p. even-value i (not-true (parity i) p)) t
+    all_even : TopOf (λ s. not (parity s)) (choice_value w J) (2 ^ J) m
+    all_even = of_shift (of_parity false) (signs (λ i. w (i + 1)) J) (choice_value w J) (w 0 +ℤ w (J + 1)) (2 ^ J) m (λ i _ p. even_value i (not-true (parity i) p)) t
 
-    all-odd : TopOf parity (choice_value w J) (2 ^ J) n
-    all-odd = of_shift (of_parity true) (signs (λ i. w (i + 1)) J) (choice_value w J) (w 0 +ℤ neg_ℤ (w (J + 1))) (2 ^ J) n (λ i _ p. odd-value i p) u
+    all_odd : TopOf parity (choice_value w J) (2 ^ J) n
+    all_odd = of_shift (of_parity true) (signs (λ i. w (i + 1)) J) (choice_value w J) (w 0 +ℤ neg_ℤ (w (J + 1))) (2 ^ J) n (λ i _ p. odd_value i p) u
 
-    pub best-even : (a b : ℤ) → a ≡ signs (λ i. w (i + 1)) J m +ℤ w (J + 1) → b ≡ signs (λ i. w (i + 1)) J n +ℤ neg_ℤ (w (J + 1)) → (b <ℤ a) ⊎ ((b ≤ℤ a) × (m < n))
+    pub best_even : (a b : ℤ) → a ≡ signs (λ i. w (i + 1)) J m +ℤ w (J + 1) → b ≡ signs (λ i. w (i + 1)) J n +ℤ neg_ℤ (w (J + 1)) → (b <ℤ a) ⊎ ((b ≤ℤ a) × (m < n))
         → Top (choice_value w J) (2 ^ J) m × (choice_value w J m ≡ w 0 +ℤ a)
-    best-even a b ea eb h =
-        let vm = even-value m (not-true (parity m) t.admitted) in
-        let vn = odd-value n u.admitted in
-        (join_first parity (choice_value w J) (2 ^ J) m n all-even all-odd (⊎_elim (λ k. inl (omega (arith, ints))) (λ k. let x = k.0 in inr (omega (arith, ints), k.1)) h), omega (arith, ints))
+    best_even a b ea eb h =
+        let vm = even_value m (not-true (parity m) t.admitted) in
+        let vn = odd_value n u.admitted in
+        (join_first parity (choice_value w J) (2 ^ J) m n all_even all_odd (⊎_elim (λ k. inl (omega (arith, ints))) (λ k. let x = k.0 in inr (omega (arith, ints), k.1)) h), omega (arith, ints))
 
-    pub best-odd : (a b : ℤ) → a ≡ signs (λ i. w (i + 1)) J m +ℤ w (J + 1) → b ≡ signs (λ i. w (i + 1)) J n +ℤ neg_ℤ (w (J + 1)) → (a <ℤ b) ⊎ ((a ≤ℤ b) × (n ≤ m))
+    pub best_odd : (a b : ℤ) → a ≡ signs (λ i. w (i + 1)) J m +ℤ w (J + 1) → b ≡ signs (λ i. w (i + 1)) J n +ℤ neg_ℤ (w (J + 1)) → (a <ℤ b) ⊎ ((a ≤ℤ b) × (n ≤ m))
         → Top (choice_value w J) (2 ^ J) n × (choice_value w J n ≡ w 0 +ℤ b)
-    best-odd a b ea eb h =
-        let vm = even-value m (not-true (parity m) t.admitted) in
-        let vn = odd-value n u.admitted in
-        (join-second parity (choice_value w J) (2 ^ J) m n all-even all-odd (⊎_elim (λ k. inl (omega (arith, ints))) (λ k. let x = k.0 in inr (omega (arith, ints), k.1)) h), omega (arith, ints))
+    best_odd a b ea eb h =
+        let vm = even_value m (not-true (parity m) t.admitted) in
+        let vn = odd_value n u.admitted in
+        (join_second parity (choice_value w J) (2 ^ J) m n all_even all_odd (⊎_elim (λ k. inl (omega (arith, ints))) (λ k. let x = k.0 in inr (omega (arith, ints), k.1)) h), omega (arith, ints))
 
 -- no group row
 pub none_best : (w : ℕ → ℤ) → Top (choice_value w 0) (2 ^ 0) 0 × (choice_value w 0 0 ≡ w 0 +ℤ w 1)

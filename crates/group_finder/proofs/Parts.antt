@@ -12,15 +12,15 @@ use Rattle.hadamard.specs.Transform.{weight_at, size_at, spectrum, Transformed}
 use Rattle.group_finder.specs.Choices.{PartsDone}
 
 module _ {X Y : Type 0} (f : X → Y) (d : Y) (a k : ℕ) (xs ys : List X) (in-range : a ≤ length xs) where
-  put-below : (i : ℕ) → i < a → get_or (map f (put_mid a k xs ys)) i d ≡ get_or (map f xs) i d
-  put-below i l =
+  put_below : (i : ℕ) → i < a → get_or (map f (put_mid a k xs ys)) i d ≡ get_or (map f xs) i d
+  put_below i l =
       let n : length (take a xs) ≡ a = length-take-le a xs in-range in
       let m = length-map (take a xs) f in
       ap (λ z. get_or z i d) (map-append f (take a xs) (ys ++ post_of a k xs)) ∙ get_or_append_left (map f (take a xs)) (map f (ys ++ post_of a k xs)) d i (omega arith)
       ∙ ap (λ z. get_or z i d) (sym (take-map f a xs)) ∙ get_or-take a (map f xs) i d l
 
-  put-inside : (i : ℕ) → i < length ys → get_or (map f (put_mid a k xs ys)) (a + i) d ≡ get_or (map f ys) i d
-  put-inside i l =
+  put_inside : (i : ℕ) → i < length ys → get_or (map f (put_mid a k xs ys)) (a + i) d ≡ get_or (map f ys) i d
+  put_inside i l =
       let n : length (map f (take a xs)) ≡ a = length-map (take a xs) f ∙ length-take-le a xs in-range in
       let m = length-map ys f in
       ap (λ z. get_or z (a + i) d) (map-append f (take a xs) (ys ++ post_of a k xs))
@@ -35,8 +35,8 @@ module _ {R : Type 0} (weight : R → ℤ) (size : R → ℕ) (span q count : �
   pub part_same : take span (drop (q * span) cur) ≡ take span (drop (q * span) old)
   part_same = ap (take span) rest
 
-  pub part-long : length (take span (drop (q * span) cur)) ≡ span
-  part-long = length-take-le span (drop (q * span) cur) (let l = length-drop (q * span) cur in let r = room in omega arith)
+  pub part_long : length (take span (drop (q * span) cur)) ≡ span
+  part_long = length-take-le span (drop (q * span) cur) (let l = length-drop (q * span) cur in let r = room in omega arith)
 
   pub part_small : sum_by size old ≤ sum_limit → sum_by size (take span (drop (q * span) old)) ≤ sum_limit
   part_small h = omega (arith, sum_by-take-le size (drop (q * span) old) span, sum_by-take-drop size old (q * span))
@@ -45,29 +45,29 @@ module _ {R : Type 0} (weight : R → ℤ) (size : R → ℕ) (span q count : �
     next : List R
     next = put_mid (q * span) span cur ys
 
-    pub parts-step : PartsDone weight size span (q + 1) old (put_mid (q * span) span cur ys)
-    parts-step =
+    pub parts_step : PartsDone weight size span (q + 1) old (put_mid (q * span) span cur ys)
+    parts_step =
         let r = room in
-        let lp : length (take span (drop (q * span) old)) ≡ span = ap length (sym part_same) ∙ part-long in
+        let lp : length (take span (drop (q * span) old)) ≡ span = ap length (sym part_same) ∙ part_long in
         let lm = length-map (take span (drop (q * span) old)) weight in
         let here : (j : ℕ) → q ≤ j → j < q + 1 → j ≡ q = λ j a b. omega arith in
         record {
           weighs = λ j l t k. ⊎_elim
-              (λ b. put-below weight (pos 0) (q * span) span cur ys (omega arith) (j * span + t) (digits_lt b k) ∙ done.weighs j b t k)
+              (λ b. put_below weight (pos 0) (q * span) span cur ys (omega arith) (j * span + t) (digits_lt b k) ∙ done.weighs j b t k)
               (λ b. subst (λ (i : ℕ). weight_at weight (put_mid (q * span) span cur ys) (i * span + t) ≡ spectrum (map weight (take span (drop (i * span) old))) t) (sym (here j b l))
-              (put-inside weight (pos 0) (q * span) span cur ys (omega arith) t (omega arith)
+              (put_inside weight (pos 0) (q * span) span cur ys (omega arith) t (omega arith)
               ∙ ap (λ (v : List ℤ). get_or v t (pos 0)) tr.weights
               ∙ get_or-map-range_with_len (spectrum (map weight (take span (drop (q * span) old)))) 0 (length (map weight (take span (drop (q * span) old)))) t t (pos 0) (omega arith) (omega arith)))
               (cases_lt j q);
           small = λ j l t k. ⊎_elim
-              (λ b. let e = put-below size 0 (q * span) span cur ys (omega arith) (j * span + t) (digits_lt b k) in let f = done.small j b t k in omega arith)
+              (λ b. let e = put_below size 0 (q * span) span cur ys (omega arith) (j * span + t) (digits_lt b k) in let f = done.small j b t k in omega arith)
               (λ b. subst (λ (i : ℕ). size_at size (put_mid (q * span) span cur ys) (i * span + t) ≤ sum_by size (take span (drop (i * span) old))) (sym (here j b l))
-              (let e = put-inside size 0 (q * span) span cur ys (omega arith) t (omega arith) in let f = tr.small t (omega arith) in omega arith))
+              (let e = put_inside size 0 (q * span) span cur ys (omega arith) t (omega arith) in let f = tr.small t (omega arith) in omega arith))
               (cases_lt j q);
         }
 
-    pub parts-rest : drop ((q + 1) * span) (put_mid (q * span) span cur ys) ≡ drop ((q + 1) * span) old
-    parts-rest =
+    pub parts_rest : drop ((q + 1) * span) (put_mid (q * span) span cur ys) ≡ drop ((q + 1) * span) old
+    parts_rest =
         let r = room in
         let e : q * span + span ≡ (q + 1) * span = (let m = add-mul q 1 span in omega arith) in
         drop-put_mid (q * span) span cur ys ((q + 1) * span) (omega arith) (omega arith) lys

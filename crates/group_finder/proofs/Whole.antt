@@ -9,7 +9,7 @@ use Rattle.std.proofs.lemmas.List.Sums.{sum_by-take-drop}
 use Rattle.hadamard.specs.Transform.{weight_at, size_at}
 use Rattle.code.specs.Words.{negated_if, agrees, Top, Best}
 use Rattle.hadamard.proofs.Sums.{summed_ext}
-use Rattle.code.proofs.Tops.{top-same}
+use Rattle.code.proofs.Tops.{top_same}
 use Rattle.finder.specs.Fold.{column, sum_of_slot}
 use Rattle.group_finder.specs.Choices.{totalled, choice_value, group_value, Slotted, slot_sum, PartsDone, parity}
 use Rattle.finder.specs.Gather.{column_below}
@@ -73,8 +73,8 @@ module _ {R : Type 0} (weight : R → ℤ) (size : R → ℕ) (group others slot
         ∙ summed_ext (length word) _ _ (λ i k. ap (λ (c : ℕ). cond (eqb c (q * span + x)) (weight_at weight word i) (pos 0)) (entries i (omega arith)))
         ∙ ap (λ (j : ℕ). sum_of_slot (λ i. get_or slots i 0 / span * span + column others i) (λ i. weight_at weight word i) j (q * span + x)) (sym n))
 
-    pub value-agrees : (m : ℕ) → m < span * 2 ^ length group → group_value (weight_at weight final) span (length group) m ≡ agrees (group ++ others) (map weight word) m
-    value-agrees m h =
+    pub value_agrees : (m : ℕ) → m < span * 2 ^ length group → group_value (weight_at weight final) span (length group) m ≡ agrees (group ++ others) (map weight word) m
+    value_agrees m h =
         let J = length group in
         let n = length-map word weight in
         let t = m / 2 ^ J in
@@ -87,8 +87,8 @@ module _ {R : Type 0} (weight : R → ℤ) (size : R → ℕ) (group others slot
         ∙ sym (decompose group others (map weight word) (λ i. get_or slots i 0 / span) (λ i l. kinds i (omega arith)) s t ls)
         ∙ ap (agrees (group ++ others) (map weight word)) e
 
-    pub whole-best : (m : ℕ) → Top (group_value (weight_at weight final) span (length group)) (span * 2 ^ length group) m → Best (group ++ others) (map weight word) m
-    whole-best m t =
+    pub whole_best : (m : ℕ) → Top (group_value (weight_at weight final) span (length group)) (span * 2 ^ length group) m → Best (group ++ others) (map weight word) m
+    whole_best m t =
         let e : span * 2 ^ length group ≡ 2 ^ length (group ++ others) =
         ap (λ (x : ℕ). x * 2 ^ length group) power ∙ sym (pow-add 2 (length others) (length group)) ∙ ap (λ (k : ℕ). 2 ^ k) (let l = length-append group others in omega arith) in
-        subst (λ (k : ℕ). Top (agrees (group ++ others) (map weight word)) k m) e (top-same (group_value (weight_at weight final) span (length group)) (agrees (group ++ others) (map weight word)) (span * 2 ^ length group) m value-agrees t)
+        subst (λ (k : ℕ). Top (agrees (group ++ others) (map weight word)) k m) e (top_same (group_value (weight_at weight final) span (length group)) (agrees (group ++ others) (map weight word)) (span * 2 ^ length group) m value_agrees t)

@@ -11,7 +11,7 @@ use Rattle.hadamard.specs.Transform.{Transformed, weight_at, size_at, spectrum}
 use Rattle.hadamard.specs.Stages.{Crossed, Staged, Blocked, block}
 use Rattle.hadamard.proofs.Entries.{at_take, at_drop}
 use Rattle.hadamard.proofs.Signs.{ones_0}
-use Rattle.hadamard.proofs.Halves.{front-total, back_total, front-spectrum, back-spectrum}
+use Rattle.hadamard.proofs.Halves.{front_total, back_total, front_spectrum, back_spectrum}
 
 -- block b of n ends within the list
 pub fits : (width n b m : ℕ) → b < n → m ≡ n * width → b * width + width ≤ m
@@ -33,23 +33,23 @@ module _ {R : Type 0} (width k : ℕ) (xs ys : List R) (long : length ys ≡ wid
       ap (take width) (drop_at (take (k * width) xs) (ys ++ post_of (k * width) width xs) (k * width) (length-take-le (k * width) xs within))
       ∙ take_at ys (post_of (k * width) width xs) width long
 
-  pub block-below : (b : ℕ) → b < k → block width b (put_mid (k * width) width xs ys) ≡ block width b xs
-  block-below b l =
+  pub block_below : (b : ℕ) → b < k → block width b (put_mid (k * width) width xs ys) ≡ block width b xs
+  block_below b l =
       sym (drop-take (b * width) width (put_mid (k * width) width xs ys))
       ∙ ap (drop (b * width)) (take-put_mid_below (k * width) width xs ys (b * width + width) (before width b k l) within)
       ∙ drop-take (b * width) width xs
 
-  pub block-above : (b : ℕ) → k < b → block width b (put_mid (k * width) width xs ys) ≡ block width b xs
-  block-above b l = ap (take width) (drop-put_mid (k * width) width xs ys (b * width) (before width k b l) within long)
+  pub block_above : (b : ℕ) → k < b → block width b (put_mid (k * width) width xs ys) ≡ block width b xs
+  block_above b l = ap (take width) (drop-put_mid (k * width) width xs ys (b * width) (before width k b l) within long)
 
 -- one more block is crossed
 pub stage_step : {R : Type 0} (weight : R → ℤ) (size : R → ℕ) (h n k : ℕ) (old cur ys : List R) → length ys ≡ h + h → k * (h + h) ≤ length cur → k < n → Staged weight size h n k old cur → Crossed weight size h h (block (h + h) k cur) ys → Staged weight size h n (k + 1) old (put_mid (k * (h + h)) (h + h) cur ys)
 stage_step weight size h n k old cur ys long within low inv new = record {
   crossed = below_more _ _
-      (λ b l. subst (λ (z : List _). Crossed weight size h h (block (h + h) b old) z) (sym (block-below (h + h) k cur ys long within b l)) (inv.crossed b l))
+      (λ b l. subst (λ (z : List _). Crossed weight size h h (block (h + h) b old) z) (sym (block_below (h + h) k cur ys long within b l)) (inv.crossed b l))
       (subst (λ (z : List _). Crossed weight size h h (block (h + h) k old) z) (sym (block_same (h + h) k cur ys long within))
       (subst (λ (z : List _). Crossed weight size h h z ys) (inv.rest k (omega arith) low) new));
-  rest = λ b a l. block-above (h + h) k cur ys long within b (omega arith) ∙ inv.rest b (omega arith) l;
+  rest = λ b a l. block_above (h + h) k cur ys long within b (omega arith) ∙ inv.rest b (omega arith) l;
 }
 
 -- the two halves of a block
@@ -75,41 +75,41 @@ even_odd P n p q c l =
 -- one stride over all blocks
 module _ {R : Type 0} (weight : R → ℤ) (size : R → ℕ) (t h n : ℕ) (old cur new : List R) (power : h ≡ 2 ^ t) (long : length cur ≡ n * (h + h)) (same : length new ≡ length cur) (inv : Blocked weight size (h + h) n old cur) (staged : Staged weight size h n n cur new) where
   module _ (b : ℕ) (l : b < n) where
-    was-long : length (block (h + h) b cur) ≡ h + h
-    was-long = block_long (h + h) n b cur l long
+    was_long : length (block (h + h) b cur) ≡ h + h
+    was_long = block_long (h + h) n b cur l long
 
-    is-long : length (block (h + h) b new) ≡ length (block (h + h) b cur)
-    is-long = block_long (h + h) n b new l (same ∙ long) ∙ sym was-long
+    is_long : length (block (h + h) b new) ≡ length (block (h + h) b cur)
+    is_long = block_long (h + h) n b new l (same ∙ long) ∙ sym was_long
 
-    front-weighs : (i : ℕ) → i < h → spectrum (map weight (block h (b + b) new)) i ≡ spectrum (map weight old) ((b + b) * h + i)
-    front-weighs i hi =
+    front_weighs : (i : ℕ) → i < h → spectrum (map weight (block h (b + b) new)) i ≡ spectrum (map weight old) ((b + b) * h + i)
+    front_weighs i hi =
         ap (λ z. spectrum (map weight z) i) (sym (block-front h b new))
-        ∙ front-spectrum weight size h (block (h + h) b cur) (block (h + h) b new) was-long is-long (staged.crossed b l) t power i hi
+        ∙ front_spectrum weight size h (block (h + h) b cur) (block (h + h) b new) was_long is_long (staged.crossed b l) t power i hi
         ∙ inv.weighs b i l (omega arith)
         ∙ ap (λ m. spectrum (map weight old) (m + i)) (twice b h)
 
-    back-weighs : (i : ℕ) → i < h → spectrum (map weight (block h (b + b + 1) new)) i ≡ spectrum (map weight old) ((b + b + 1) * h + i)
-    back-weighs i hi =
+    back_weighs : (i : ℕ) → i < h → spectrum (map weight (block h (b + b + 1) new)) i ≡ spectrum (map weight old) ((b + b + 1) * h + i)
+    back_weighs i hi =
         let e : b * (h + h) + (h + i) ≡ (b + b + 1) * h + i = omega (arith, twice b h, add-mul (b + b) 1 h) in
         ap (λ z. spectrum (map weight z) i) (sym (block_back h b new))
-        ∙ back-spectrum weight size h (block (h + h) b cur) (block (h + h) b new) was-long is-long (staged.crossed b l) t power i hi
+        ∙ back_spectrum weight size h (block (h + h) b cur) (block (h + h) b new) was_long is_long (staged.crossed b l) t power i hi
         ∙ inv.weighs b (h + i) l (omega arith)
         ∙ ap (spectrum (map weight old)) e
 
-    front-small : sum_by size (block h (b + b) new) ≤ sum_by size old
-    front-small =
+    front_small : sum_by size (block h (b + b) new) ≤ sum_by size old
+    front_small =
         let e = ap (sum_by size) (block-front h b new) in
-        omega (arith, front-total weight size h (block (h + h) b cur) (block (h + h) b new) was-long is-long (staged.crossed b l), inv.small b l)
+        omega (arith, front_total weight size h (block (h + h) b cur) (block (h + h) b new) was_long is_long (staged.crossed b l), inv.small b l)
 
-    back-small : sum_by size (block h (b + b + 1) new) ≤ sum_by size old
-    back-small =
+    back_small : sum_by size (block h (b + b + 1) new) ≤ sum_by size old
+    back_small =
         let e = ap (sum_by size) (block_back h b new) in
-        omega (arith, back_total weight size h (block (h + h) b cur) (block (h + h) b new) was-long is-long (staged.crossed b l), inv.small b l)
+        omega (arith, back_total weight size h (block (h + h) b cur) (block (h + h) b new) was_long is_long (staged.crossed b l), inv.small b l)
 
   pub stride : Blocked weight size h (n * 2) old new
   stride = record {
-    weighs = λ b i l hi. even_odd (λ c. (i : ℕ) → i < h → spectrum (map weight (block h c new)) i ≡ spectrum (map weight old) (c * h + i)) n front-weighs back-weighs b l i hi;
-    small = even_odd (λ c. sum_by size (block h c new) ≤ sum_by size old) n front-small back-small;
+    weighs = λ b i l hi. even_odd (λ c. (i : ℕ) → i < h → spectrum (map weight (block h c new)) i ≡ spectrum (map weight old) (c * h + i)) n front_weighs back_weighs b l i hi;
+    small = even_odd (λ c. sum_by size (block h c new) ≤ sum_by size old) n front_small back_small;
   }
 
 -- one block, the list
@@ -140,23 +140,23 @@ module _ {R : Type 0} (weight : R → ℤ) (size : R → ℕ) (n : ℕ) (old new
       let z : i ≡ i * 1 + 0 = omega arith in
       ap (λ m. get_or (map f new) m e) z ∙ sym (at_drop f e (i * 1) new 0) ∙ sym (at_take f e 1 (drop (i * 1) new) 0 (omega arith))
 
-  one-long : (i : ℕ) → i < n → length (block 1 i new) ≡ 1
-  one-long i l = block_long 1 n i new l (omega arith)
+  one_long : (i : ℕ) → i < n → length (block 1 i new) ≡ 1
+  one_long i l = block_long 1 n i new l (omega arith)
 
-  entry-weighs : (i : ℕ) → i < n → weight_at weight new i ≡ spectrum (map weight old) i
-  entry-weighs i l =
+  entry_weighs : (i : ℕ) → i < n → weight_at weight new i ≡ spectrum (map weight old) i
+  entry_weighs i l =
       let z : i * 1 + 0 ≡ i = omega arith in
       held weight (pos 0) i
-      ∙ single_weight (map weight (block 1 i new)) (length-map (block 1 i new) weight ∙ one-long i l)
+      ∙ single_weight (map weight (block 1 i new)) (length-map (block 1 i new) weight ∙ one_long i l)
       ∙ inv.weighs i 0 l (omega arith)
       ∙ ap (spectrum (map weight old)) z
 
-  pub blocked-end : Transformed weight size old new
-  blocked-end = record {
+  pub blocked_end : Transformed weight size old new
+  blocked_end = record {
     weights = fill_by_all (spectrum (map weight old)) (map weight new) (length (map weight old)) (pos 0)
         (length-map new weight ∙ same ∙ sym (length-map old weight))
-        (λ k l. let h = length-map old weight in entry-weighs k (omega arith));
+        (λ k l. let h = length-map old weight in entry_weighs k (omega arith));
     small = λ i l.
         let e = held size 0 i in
-        omega (arith, single_size size (block 1 i new) (one-long i (omega arith)), inv.small i (omega arith));
+        omega (arith, single_size size (block 1 i new) (one_long i (omega arith)), inv.small i (omega arith));
   }

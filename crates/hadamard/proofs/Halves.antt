@@ -9,8 +9,8 @@ use Rattle.hadamard.proofs.Sums.{summed_ext, counted, sum_by-counted, counted_le
 use Rattle.hadamard.proofs.Signs.{low_half, high_half}
 
 module _ {R : Type 0} (weight : R → ℤ) (size : R → ℕ) (h : ℕ) (old mid : List R) (long : length old ≡ h + h) (same : length mid ≡ length old) (crossed : Crossed weight size h h old mid) where
-  pairs-total : counted h (λ j. size_at size old j + size_at size old (h + j)) ≡ sum_by size old
-  pairs-total =
+  pairs_total : counted h (λ j. size_at size old j + size_at size old (h + j)) ≡ sum_by size old
+  pairs_total =
       counted_pairs h h (size_at size old) ∙ sym (counted_split h h (size_at size old)) ∙ ap (λ n. counted n (size_at size old)) (sym long) ∙ sym (sum_by-counted size old)
 
   pub front_long : length (take h mid) ≡ h
@@ -19,17 +19,17 @@ module _ {R : Type 0} (weight : R → ℤ) (size : R → ℕ) (h : ℕ) (old mid
   pub back_long : length (drop h mid) ≡ h
   back_long = length-drop h mid ∙ omega arith
 
-  pub front-total : sum_by size (take h mid) ≤ sum_by size old
-  front-total =
+  pub front_total : sum_by size (take h mid) ≤ sum_by size old
+  front_total =
       let a = sum_by-counted size (take h mid) ∙ ap (λ n. counted n (size_at size (take h mid))) front_long in
       let b = counted_le h (size_at size (take h mid)) (λ j. size_at size old j + size_at size old (h + j)) (λ j l. let e = at_take size 0 h mid j l in omega (arith, crossed.sum_size j l)) in
-      omega (arith, pairs-total)
+      omega (arith, pairs_total)
 
   pub back_total : sum_by size (drop h mid) ≤ sum_by size old
   back_total =
       let a = sum_by-counted size (drop h mid) ∙ ap (λ n. counted n (size_at size (drop h mid))) back_long in
       let b = counted_le h (size_at size (drop h mid)) (λ j. size_at size old j + size_at size old (h + j)) (λ j l. let e = at_drop size 0 h mid j in omega (arith, crossed.difference_size j l)) in
-      omega (arith, pairs-total)
+      omega (arith, pairs_total)
 
   module _ (t : ℕ) (power : h ≡ 2 ^ t) (i : ℕ) (hi : i < h) where
     low : summed (h + h) (λ j. negated_if (odd_common i j) (weight_at weight old j)) ≡ summed h (λ j. negated_if (odd_common i j) (weight_at weight old j +ℤ weight_at weight old (h + j)))
@@ -41,15 +41,15 @@ module _ {R : Type 0} (weight : R → ℤ) (size : R → ℕ) (h : ℕ) (old mid
     whole_long : length (map weight old) ≡ h + h
     whole_long = length-map old weight ∙ long
 
-    pub front-spectrum : spectrum (map weight (take h mid)) i ≡ spectrum (map weight old) i
-    front-spectrum =
+    pub front_spectrum : spectrum (map weight (take h mid)) i ≡ spectrum (map weight old) i
+    front_spectrum =
         ap (λ n. summed n (λ j. negated_if (odd_common i j) (weight_at weight (take h mid) j))) (length-map (take h mid) weight ∙ front_long)
         ∙ summed_ext h _ _ (λ j l. ap (negated_if (odd_common i j)) (at_take weight (pos 0) h mid j l ∙ crossed.sum j l))
         ∙ sym low
         ∙ ap (λ n. summed n (λ j. negated_if (odd_common i j) (weight_at weight old j))) (sym whole_long)
 
-    pub back-spectrum : spectrum (map weight (drop h mid)) i ≡ spectrum (map weight old) (h + i)
-    back-spectrum =
+    pub back_spectrum : spectrum (map weight (drop h mid)) i ≡ spectrum (map weight old) (h + i)
+    back_spectrum =
         ap (λ n. summed n (λ j. negated_if (odd_common i j) (weight_at weight (drop h mid) j))) (length-map (drop h mid) weight ∙ back_long)
         ∙ summed_ext h _ _ (λ j l. ap (negated_if (odd_common i j)) (at_drop weight (pos 0) h mid j ∙ crossed.difference j l))
         ∙ sym high

@@ -21,22 +21,22 @@ flips : (n : ℕ) → odd (1 + n) ≡ not (odd n)
 flips n = grind arith
 
 module _ (t i j : ℕ) (hi : i < 2 ^ t) (hj : j < 2 ^ t) where
-  pub far-column : odd_common i (2 ^ t + j) ≡ odd_common i j
-  far-column =
+  pub far_column : odd_common i (2 ^ t + j) ≡ odd_common i j
+  far_column =
       let a : 0 * 2 ^ t + i ≡ i = omega arith in
       let b : 1 * 2 ^ t + j ≡ 2 ^ t + j = omega arith in
       let e : ones (bit_and i (2 ^ t + j)) ≡ ones (bit_and i j) = ap₂ (λ x y. ones (bit_and x y)) (sym a) (sym b) ∙ ones_block t 0 1 i j hi hj ∙ omega (arith, ones_0) in
       ap odd e
 
-  pub far-row : odd_common (2 ^ t + i) j ≡ odd_common i j
-  far-row =
+  pub far_row : odd_common (2 ^ t + i) j ≡ odd_common i j
+  far_row =
       let a : 1 * 2 ^ t + i ≡ 2 ^ t + i = omega arith in
       let b : 0 * 2 ^ t + j ≡ j = omega arith in
       let e : ones (bit_and (2 ^ t + i) j) ≡ ones (bit_and i j) = ap₂ (λ x y. ones (bit_and x y)) (sym a) (sym b) ∙ ones_block t 1 0 i j hi hj ∙ omega (arith, ones_0) in
       ap odd e
 
-  pub far-both : odd_common (2 ^ t + i) (2 ^ t + j) ≡ not (odd_common i j)
-  far-both =
+  pub far_both : odd_common (2 ^ t + i) (2 ^ t + j) ≡ not (odd_common i j)
+  far_both =
       let a : 1 * 2 ^ t + i ≡ 2 ^ t + i = omega arith in
       let b : 1 * 2 ^ t + j ≡ 2 ^ t + j = omega arith in
       let e : ones (bit_and (2 ^ t + i) (2 ^ t + j)) ≡ 1 + ones (bit_and i j) = ap₂ (λ x y. ones (bit_and x y)) (sym a) (sym b) ∙ ones_block t 1 1 i j hi hj ∙ omega (arith, ones_1) in
@@ -60,13 +60,13 @@ module _ (t i : ℕ) (hi : i < 2 ^ t) (f : ℕ → ℤ) where
   low_half =
       summed_split (2 ^ t) (2 ^ t) (λ j. negated_if (odd_common i j) (f j))
       ∙ sym (summed-add (2 ^ t) (λ j. negated_if (odd_common i j) (f j)) (λ j. negated_if (odd_common i (2 ^ t + j)) (f (2 ^ t + j))))
-      ∙ summed_ext (2 ^ t) _ _ (λ j hj. ap (λ b. negated_if (odd_common i j) (f j) +ℤ negated_if b (f (2 ^ t + j))) (far-column t i j hi hj) ∙ sym (negated_if-add (odd_common i j) (f j) (f (2 ^ t + j))))
+      ∙ summed_ext (2 ^ t) _ _ (λ j hj. ap (λ b. negated_if (odd_common i j) (f j) +ℤ negated_if b (f (2 ^ t + j))) (far_column t i j hi hj) ∙ sym (negated_if-add (odd_common i j) (f j) (f (2 ^ t + j))))
 
   pub high_half : summed (2 ^ t + 2 ^ t) (λ j. negated_if (odd_common (2 ^ t + i) j) (f j)) ≡ summed (2 ^ t) (λ j. negated_if (odd_common i j) (f j +ℤ neg_ℤ (f (2 ^ t + j))))
   high_half =
       summed_split (2 ^ t) (2 ^ t) (λ j. negated_if (odd_common (2 ^ t + i) j) (f j))
       ∙ sym (summed-add (2 ^ t) (λ j. negated_if (odd_common (2 ^ t + i) j) (f j)) (λ j. negated_if (odd_common (2 ^ t + i) (2 ^ t + j)) (f (2 ^ t + j))))
       ∙ summed_ext (2 ^ t) _ _ (λ j hj.
-      ap₂ (λ b d. negated_if b (f j) +ℤ negated_if d (f (2 ^ t + j))) (far-row t i j hi hj) (far-both t i j hi hj)
+      ap₂ (λ b d. negated_if b (f j) +ℤ negated_if d (f (2 ^ t + j))) (far_row t i j hi hj) (far_both t i j hi hj)
       ∙ ap (λ x. negated_if (odd_common i j) (f j) +ℤ x) (negated_if_not (odd_common i j) (f (2 ^ t + j)) ∙ sym (negated_if-neg (odd_common i j) (f (2 ^ t + j))))
       ∙ sym (negated_if-add (odd_common i j) (f j) (neg_ℤ (f (2 ^ t + j)))))

@@ -2,7 +2,7 @@ use card_text::fault::Fault;
 use std::{fmt, io};
 
 // Why the program ends with nothing written.
-#[derive(Debug, Drop)]
+#[derive(Drop)]
 pub enum Failure {
     Usage,
     Card { fault: Fault },

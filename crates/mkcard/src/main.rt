@@ -9,6 +9,7 @@ use code::refusal::Refusal;
 use failure::Failure;
 use std::env;
 use std::io::Read;
+use std::process::ExitCode;
 
 // The most bytes that are read from standard input.
 const INPUT_LIMIT: usize = 65536;
@@ -58,10 +59,12 @@ fn run(rt: &HostRuntime) -> Result<(), Failure> {
     Ok(())
 }
 
-fn main(rt: HostRuntime) -> Result<(), Failure> {
-    let result = run(&rt);
-    if let Err(failure) = &result {
-        let _ = eprintln!(rt; "mkcard: {failure}");
+fn main(rt: HostRuntime) -> ExitCode {
+    match run(&rt) {
+        Ok(()) => ExitCode::SUCCESS,
+        Err(failure) => {
+            let _ = eprintln!(rt; "mkcard: {failure}");
+            ExitCode::FAILURE
+        }
     }
-    result
 }

@@ -22,42 +22,42 @@ use Rattle.sheet.proofs.Books.{book_push}
 use Rattle.sheet.proofs.Checks.{check_samples_lem}
 use Rattle.played.specs.Played.{PlaysWord, Again}
 use Rattle.played.proofs.Levels.{agree_less, agree_zero, codeword_within}
-use Rattle.played.proofs.Blank.{quiet-book}
+use Rattle.played.proofs.Blank.{quiet_book}
 use Rattle.played.proofs.Totals.{full_totals, plays_good}
 
 module _ (rows : List ℕ) (n F m : ℕ) (within : (j : ℕ) → j < length rows → get_or rows j 0 < 2 ^ n) (ind : Independent rows) (some : 0 < F) (low : m < 2 ^ length rows) where
   abbrev pub totals : List ℤ
   totals = negated_at (replicate n (pos F)) (codeword rows m)
 
-  agrees-as : (j : ℕ) → agrees rows totals j ≡ agreement (replicate n (pos F)) (bit_xor (codeword rows m) (codeword rows j))
-  agrees-as j = agreement_negated (replicate n (pos F)) (codeword rows m) (codeword rows j)
+  agrees_as : (j : ℕ) → agrees rows totals j ≡ agreement (replicate n (pos F)) (bit_xor (codeword rows m) (codeword rows j))
+  agrees_as j = agreement_negated (replicate n (pos F)) (codeword rows m) (codeword rows j)
 
-  pub own-agreement : agrees rows totals m ≡ pos (n * F)
-  own-agreement = agrees-as m ∙ ap (agreement (replicate n (pos F))) (xor_self (codeword rows m)) ∙ agree_zero n F
+  pub own_agreement : agrees rows totals m ≡ pos (n * F)
+  own_agreement = agrees_as m ∙ ap (agreement (replicate n (pos F))) (xor_self (codeword rows m)) ∙ agree_zero n F
 
-  other-agreement : (j : ℕ) → j < 2 ^ length rows → (j ≡ m → ⊥) → agrees rows totals j <ℤ pos (n * F)
-  other-agreement j h ne =
-      subst (λ z. z <ℤ pos (n * F)) (sym (agrees-as j))
+  other_agreement : (j : ℕ) → j < 2 ^ length rows → (j ≡ m → ⊥) → agrees rows totals j <ℤ pos (n * F)
+  other_agreement j h ne =
+      subst (λ z. z <ℤ pos (n * F)) (sym (agrees_as j))
       (agree_less n F (bit_xor (codeword rows m) (codeword rows j)) some
       (xor_lt n (codeword rows m) (codeword rows j) (codeword_within n rows m within) (codeword_within n rows j within))
-      (λ z. ne (independent_distinct rows ind j m h low (sym (same-words (codeword rows m) (codeword rows j) z)))))
+      (λ z. ne (independent_distinct rows ind j m h low (sym (same_words (codeword rows m) (codeword rows j) z)))))
     where
-      same-words : (a b : ℕ) → bit_xor a b ≡ 0 → a ≡ b
-      same-words a b z = sym (cancel a b) ∙ ap (λ x. bit_xor x b) z ∙ xor_zero_l b
+      same_words : (a b : ℕ) → bit_xor a b ≡ 0 → a ≡ b
+      same_words a b z = sym (cancel a b) ∙ ap (λ x. bit_xor x b) z ∙ xor_zero_l b
 
-  pub only-best : (j : ℕ) → Best rows totals j → j ≡ m
-  only-best j t = elim (cases_eq j m) [
+  pub only_best : (j : ℕ) → Best rows totals j → j ≡ m
+  only_best j t = elim (cases_eq j m) [
     | inl e ↦ e
-    | inr ne ↦ absurd (clash_ℤ (other-agreement j t.within ne) (subst (λ z. z ≤ℤ agrees rows totals j) own-agreement (t.greatest m low)))
+    | inr ne ↦ absurd (clash_ℤ (other_agreement j t.within ne) (subst (λ z. z ≤ℤ agrees rows totals j) own_agreement (t.greatest m low)))
   ]
 
 module _ {R : Type 0} (weight : R → ℤ) (size : R → ℕ) (main second : ℕ) where
   -- the totals that stand after the one pass
-  pub once-totals : (n : ℕ) (h : List Call) (samples : List Sample) (c : ℕ) → (book_of main second n h).count ≡ 0 → length samples ≡ n → PlaysWord c samples →
+  pub once_totals : (n : ℕ) (h : List Call) (samples : List Sample) (c : ℕ) → (book_of main second n h).count ≡ 0 → length samples ≡ n → PlaysWord c samples →
       (book_of main second n (h ++ Pass samples ∷ [])).totals ≡ negated_at (replicate n (pos (full_label * main))) c
-  once-totals n h samples c none long plays =
+  once_totals n h samples c none long plays =
       let b = book_of main second n h in
-      let q = quiet-book main second n h in
+      let q = quiet_book main second n h in
       let new : Book = record { count = b.count + 1; totals = add_labels main second b.totals samples } in
       let taken = check_samples_lem (length b.totals) b.count samples (long ∙ sym q.places) (omega arith) ∙ first_good samples (plays_good c samples plays) in
       ap (λ x. x.totals) (book_push main second n h (Pass samples))
@@ -73,16 +73,16 @@ module _ {R : Type 0} (weight : R → ℤ) (size : R → ℕ) (main second : ℕ
       let c = codeword (rows_of card) m in
       let rule = (law.book (h ++ Pass samples ∷ []) st).1 in
       let ts = ap (λ k. (book_of main second k (h ++ Pass samples ∷ [])).totals) cov
-      ∙ once-totals n h samples c (subst (λ k. (book_of main second k h).count ≡ 0) cov none) long plays in
+      ∙ once_totals n h samples c (subst (λ k. (book_of main second k h).count ≡ 0) cov none) long plays in
       let places : length (book_at weight size main second (h ++ Pass samples ∷ []) t).totals ≡ span =
-      (quiet-book main second (covered (cells_of t)) (h ++ Pass samples ∷ [])).places ∙ cov ∙ sym sp in
+      (quiet_book main second (covered (cells_of t)) (h ++ Pass samples ∷ [])).places ∙ cov ∙ sym sp in
       let a = rule.answered places fits in
       let f = a.0 in
       let best = subst (λ x. Best x (negated_at (replicate n (pos F)) c) f.message) rw' (subst (λ x. Best rows x f.message) ts a.2) in
-      let is = only-best (rows_of card) n F m lawful.within lawful.independent (omega arith) low f.message best in (
+      let is = only_best (rows_of card) n F m lawful.within lawful.independent (omega arith) low f.message best in (
         f,
         a.1,
         is,
         a.3 ∙ ap₂ (λ x y. agrees x y f.message) rw' ts ∙ ap (agrees (rows_of card) (negated_at (replicate n (pos F)) c)) is
-            ∙ own-agreement (rows_of card) n F m lawful.within lawful.independent (omega arith) low ∙ ap pos (sym (mul_assoc n full_label main)),
+            ∙ own_agreement (rows_of card) n F m lawful.within lawful.independent (omega arith) low ∙ ap pos (sym (mul_assoc n full_label main)),
       )

@@ -39,10 +39,10 @@ module _ (m s n : ℕ) where
   }
   quiet_step b Search q = q
 
-  quiet-after : (b : Book) (h : List Call) → Quiet n b → Quiet n (after m s b h)
-  quiet-after b [] q = q
-  quiet-after b (c ∷ h) q = quiet-after (step m s b c) h (quiet_step b c q)
+  quiet_after : (b : Book) (h : List Call) → Quiet n b → Quiet n (after m s b h)
+  quiet_after b [] q = q
+  quiet_after b (c ∷ h) q = quiet_after (step m s b c) h (quiet_step b c q)
 
-  pub quiet-book : (h : List Call) → Quiet n (book_of m s n h)
+  pub quiet_book : (h : List Call) → Quiet n (book_of m s n h)
   unfolding book_of
-  quiet-book h = quiet-after (laid n) h (record { places = length-replicate n (pos 0); nothing = λ e. refl })
+  quiet_book h = quiet_after (laid n) h (record { places = length-replicate n (pos 0); nothing = λ e. refl })

@@ -28,8 +28,8 @@ module _ (card : Card) (m levels n w : ℕ) (xs ys : List Sample) (nis : n ≡ c
   at : (k : ℕ) (x : Sample) → k < n → get_or (ys ++ post_of 0 (n - 0) xs) k x ≡ played_as (digit k levels) (digit k (codeword (rows_of card) m))
   at k x h = get_or_append_left ys (post_of 0 (n - 0) xs) x k (omega arith) ∙ all k x (omega arith) ∙ ap (λ v. played_as (digit k levels) (digit k v)) wis
 
-  rest-stays : drop n (ys ++ post_of 0 (n - 0) xs) ≡ drop n xs
-  rest-stays = same_lists _ _ (simp (length-drop, length-append, length-drop) (omega arith)) (λ k d h.
+  rest_stays : drop n (ys ++ post_of 0 (n - 0) xs) ≡ drop n xs
+  rest_stays = same_lists _ _ (simp (length-drop, length-append, length-drop) (omega arith)) (λ k d h.
       get_or-drop n (ys ++ post_of 0 (n - 0) xs) k d ∙ get_or-append_right ys (post_of 0 (n - 0) xs) n (n + k) d yis (omega arith)
       ∙ get_or-drop (n - 0) xs (n + k - n) d ∙ ap (λ i. get_or xs i d) (let e : n - 0 + (n + k - n) ≡ n + k = omega arith in e)
       ∙ sym (get_or-drop n xs k d))
@@ -44,5 +44,5 @@ module _ (card : Card) (m levels n w : ℕ) (xs ys : List Sample) (nis : n ≡ c
         subst (PlaysDigit (digit k (codeword (rows_of card) m)))
         (sym (get_or-take card.len (ys ++ post_of 0 (n - 0) xs) k x (omega arith) ∙ at k x low))
         (plays_as (digit k levels) (digit k (codeword (rows_of card) m)));
-    rest = ap (λ j. drop j (ys ++ post_of 0 (n - 0) xs)) (sym nis) ∙ rest-stays ∙ ap (λ j. drop j xs) nis;
+    rest = ap (λ j. drop j (ys ++ post_of 0 (n - 0) xs)) (sym nis) ∙ rest_stays ∙ ap (λ j. drop j xs) nis;
   }

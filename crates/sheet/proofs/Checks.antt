@@ -34,9 +34,9 @@ pass_rule b ss r is = record {
 
 module _ {R : Type 0} (weight : R → ℤ) (size : R → ℕ) (m s : ℕ) where
   -- a cell no larger than so many passes make it takes every good sample
-  pub none-overgrown : (ss : List Sample) (cells : List R) (n : ℕ) (e : Refusal) → AllGood ss → n < max_passes → length ss ≡ length cells →
+  pub none_overgrown : (ss : List Sample) (cells : List R) (n : ℕ) (e : Refusal) → AllGood ss → n < max_passes → length ss ≡ length cells →
       ((k : ℕ) (d : R) → k < length cells → size (get_or cells k d) ≤ full_label * n) → FirstOvergrown weight size m s ss cells e → ⊥
-  none-overgrown ss cells n e good few long light f =
+  none_overgrown ss cells n e good few long light f =
       let k = f.place in
       let x = some_of ss k f.on in
       let d = some_of cells k (omega (arith, f.on)) in
@@ -50,8 +50,8 @@ module _ {R : Type 0} (weight : R → ℤ) (size : R → ℕ) (m s : ℕ) where
       some_of (x ∷ xs) k h = x
 
   -- a pass that met the first checks stands or falls by the sizes
-  pub checked-whole : (ss : List Sample) (n : ℕ) (cells : List R) (r : Result (Unit {0}) Refusal) → pass_check (length cells) n ss ≡ None → length ss ≡ length cells → n < max_passes → AllGood ss →
+  pub checked_whole : (ss : List Sample) (n : ℕ) (cells : List R) (r : Result (Unit {0}) Refusal) → pass_check (length cells) n ss ≡ None → length ss ≡ length cells → n < max_passes → AllGood ss →
       MatchResult r (λ _. (k : ℕ) (x : Sample) (d : R) → k < length ss → Fits weight size m s (get_or ss k x) (get_or cells k d)) (FirstOvergrown weight size m s ss cells) →
       MatchResult r (λ _. PassFits weight size m s ss n cells) (PassFails weight size m s ss n cells)
-  checked-whole ss n cells (Ok _) is long few good f = record { checked = is; long = long; few = few; good = good; fits = f }
-  checked-whole ss n cells (Err e) is long few good f = inr (is, good, few, long, f)
+  checked_whole ss n cells (Ok _) is long few good f = record { checked = is; long = long; few = few; good = good; fits = f }
+  checked_whole ss n cells (Err e) is long few good f = inr (is, good, few, long, f)

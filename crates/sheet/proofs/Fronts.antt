@@ -5,24 +5,24 @@ use Rattle.code.specs.Limits.{max_places}
 use Rattle.std.proofs.lemmas.List.{take-append-drop, same_lists, get_or-take, get_or-drop, get_or_append_left, get_or-append_right, length-take, length-drop, length-append}
 
 module _ {X : Type 0} (xs ys : List X) (n : ℕ) (nis : n ≡ min max_places (length xs)) (yis : length ys ≡ n) where
-  pub length-is : length (ys ++ post_of 0 (n - 0) xs) ≡ length xs
-  length-is = simp (length-append, length-drop) (omega arith)
+  pub length_is : length (ys ++ post_of 0 (n - 0) xs) ≡ length xs
+  length_is = simp (length-append, length-drop) (omega arith)
 
-  pub front-is : take max_places (ys ++ post_of 0 (n - 0) xs) ≡ ys
-  front-is = same_lists _ _ (simp (length-take, length-append, length-drop) (omega arith)) (λ k d h.
+  pub front_is : take max_places (ys ++ post_of 0 (n - 0) xs) ≡ ys
+  front_is = same_lists _ _ (simp (length-take, length-append, length-drop) (omega arith)) (λ k d h.
       let l : k < length ys = omega (arith, simp (length-take, length-append, length-drop) at h) in
       get_or-take max_places (ys ++ post_of 0 (n - 0) xs) k d (omega arith) ∙ get_or_append_left ys (post_of 0 (n - 0) xs) d k l)
 
-  pub rest-is : drop max_places (ys ++ post_of 0 (n - 0) xs) ≡ drop max_places xs
-  rest-is = same_lists _ _ (simp (length-drop, length-append, length-drop) (omega arith)) (λ k d h.
+  pub rest_is : drop max_places (ys ++ post_of 0 (n - 0) xs) ≡ drop max_places xs
+  rest_is = same_lists _ _ (simp (length-drop, length-append, length-drop) (omega arith)) (λ k d h.
       let l : k + max_places < length xs = omega (arith, simp (length-drop, length-append) at h) in
       get_or-drop max_places (ys ++ post_of 0 (n - 0) xs) k d ∙ get_or-append_right ys (post_of 0 (n - 0) xs) n (max_places + k) d yis (omega arith)
       ∙ get_or-drop (n - 0) xs (max_places + k - n) d ∙ ap (λ i. get_or xs i d) (let e : n - 0 + (max_places + k - n) ≡ max_places + k = omega arith in e)
       ∙ sym (get_or-drop max_places xs k d))
 
 module _ {X : Type 0} (xs : List X) (n : ℕ) (nis : n ≡ min max_places (length xs)) where
-  pub part-is : take (n - 0) xs ≡ take max_places xs
-  part-is = same_lists _ _ (simp length-take (omega arith)) (λ k d h.
+  pub part_is : take (n - 0) xs ≡ take max_places xs
+  part_is = same_lists _ _ (simp length-take (omega arith)) (λ k d h.
       let l : k < n = omega (arith, simp length-take at h) in
       get_or-take (n - 0) xs k d (omega arith) ∙ sym (get_or-take max_places xs k d (omega arith)))
 

@@ -38,17 +38,17 @@ spared_more need reqs i os q a xs ys zs hr ha read one before b all =
     ∙ before b (λ k d e hk. let ne : k ≢ i = omega arith in subst (λ x. used need (get_or reqs k d) x ≤ b) (get_or-set_other os i k a e ne) (all k d e (omega arith)))
 
 module _ {R F : Type 0} (weight : R → ℤ) (size : R → ℕ) (m s : ℕ) (span : F → ℕ) (rows : F → List ℕ) (need : F → ℕ) (work : ℕ) (reqs : List (Request F)) where
-  pub ran-none : (h : List Call) (t : Sheet R) (os : List (Answer R)) → Stands weight size m s h t → Ran weight size m s span rows need work h reqs 0 t t os
-  ran-none h t os st = record {
+  pub ran_none : (h : List Call) (t : Sheet R) (os : List (Answer R)) → Stands weight size m s h t → Ran weight size m s span rows need work h reqs 0 t t os
+  ran_none h t os st = record {
     stands = subst (λ g. Stands weight size m s g t) (sym (append-nil h)) st;
     answered = λ k q a hk. absurd (omega arith);
   }
 
-  pub ran-more : (h : List Call) (i : ℕ) (t u v : Sheet R) (os : List (Answer R)) (q : Request F) (a : Answer R) (work' : ℕ) → work' ≡ work → i < length reqs → i < length os → q ≡ get_or reqs i q →
+  pub ran_more : (h : List Call) (i : ℕ) (t u v : Sheet R) (os : List (Answer R)) (q : Request F) (a : Answer R) (work' : ℕ) → work' ≡ work → i < length reqs → i < length os → q ≡ get_or reqs i q →
       length (cells_of u) ≡ length (cells_of t) →
       Booked weight size m s u v (call_of q) (λ b. AnswersTo weight span rows need work' b q a) →
       Ran weight size m s span rows need work h reqs i t u os → Ran weight size m s span rows need work h reqs (i + 1) t v (set os i a)
-  ran-more h i t u v os q a work' same hr ha read len booked ran =
+  ran_more h i t u v os q a work' same hr ha read len booked ran =
       let before : List Call = h ++ calls_of i reqs in
       let one = booked before ran.stands in
       let pushed : before ++ (call_of q ∷ []) ≡ h ++ calls_of (i + 1) reqs =

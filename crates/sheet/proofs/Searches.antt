@@ -8,7 +8,7 @@ use Rattle.code.specs.declared.refusal.Refusal.TheVariants.{SizeTooLarge}
 use Rattle.code.proofs.Tops.{best_unique}
 use Rattle.finder.specs.declared.found.Found.{Found}
 use Rattle.finder.specs.Search.{large_from, refusal, Answered, Refused}
-use Rattle.finder.proofs.Refusals.{wrong-length, right-length, memory_short, memory-fits}
+use Rattle.finder.proofs.Refusals.{wrong_length, right_length, memory_short, memory-fits}
 use Rattle.sheet.specs.declared.Sheet.{Sheet}
 use Rattle.sheet.specs.Book.{Call, SearchRule}
 use Rattle.sheet.specs.Stands.{cells_of, front, book_at, Stands, SameFound}
@@ -20,32 +20,32 @@ none_large i (x ∷ xs) after all =
     ∙ none_large (i + 1) xs after (λ k h. all (suc k) (omega arith))
 
 module _ {R : Type 0} (weight : R → ℤ) (size : R → ℕ) (span : ℕ) (rows : List ℕ) (need : ℕ) (word work after : List R) where
-  refused-is : (r : Result (Found R) Refusal) (x : Refusal) → refusal span need (map size word) (length work) ≡ Some x →
+  refused_is : (r : Result (Found R) Refusal) (x : Refusal) → refusal span need (map size word) (length work) ≡ Some x →
       MatchResult r (λ f. Answered weight size span rows need word work after f.message f.reading) (λ e. Refused size span need word work after e) → r ≡ Err x
-  refused-is (Ok f) x is a = let t = a.taken in let z : ◌≡◌ {A = ℕ} 0 1 = cc in absurd (omega arith)
-  refused-is (Err e) x is a = let t : Some e ≡ Some x = sym a.reason ∙ is in cc
+  refused_is (Ok f) x is a = let t = a.taken in let z : ◌≡◌ {A = ℕ} 0 1 = cc in absurd (omega arith)
+  refused_is (Err e) x is a = let t : Some e ≡ Some x = sym a.reason ∙ is in cc
 
-  answered-is : (r : Result (Found R) Refusal) → refusal span need (map size word) (length work) ≡ None →
+  answered_is : (r : Result (Found R) Refusal) → refusal span need (map size word) (length work) ≡ None →
       MatchResult r (λ f. Answered weight size span rows need word work after f.message f.reading) (λ e. Refused size span need word work after e) →
       (f : Found R) × (r ≡ Ok f) × Best rows (map weight word) f.message × (weight f.reading ≡ agrees rows (map weight word) f.message)
-  answered-is (Ok f) is a = (f, refl, a.is_best, a.weighs)
-  answered-is (Err e) is a = let t = a.reason in let z : ◌≡◌ {A = ℕ} 0 1 = cc in absurd (omega arith)
+  answered_is (Ok f) is a = (f, refl, a.is_best, a.weighs)
+  answered_is (Err e) is a = let t = a.reason in let z : ◌≡◌ {A = ℕ} 0 1 = cc in absurd (omega arith)
 
-  rule-of : (r : Result (Found R) Refusal) → ((k : ℕ) (d : R) → k < length word → size (get_or word k d) ≤ size_limit) →
+  rule_of : (r : Result (Found R) Refusal) → ((k : ℕ) (d : R) → k < length word → size (get_or word k d) ≤ size_limit) →
       MatchResult r (λ f. Answered weight size span rows need word work after f.message f.reading) (λ e. Refused size span need word work after e) →
       SearchRule weight span rows need (length work) (map weight word) r
-  rule-of r light a =
+  rule_of r light a =
       let lw = length-map word weight in
       let ls = length-map word size in
       let small : (k : ℕ) → k < length (map size word) → get_or (map size word) k 0 ≤ size_limit = λ k h.
       let d = some_of word k (omega arith) in
       let e = get_or-map size word k d 0 (omega arith) in let l = light k d (omega arith) in omega arith in
       let whole : length (map weight word) ≡ span → refusal span need (map size word) (length work) ≡ _ = λ h.
-      right-length span need (map size word) (length work) (omega arith) ∙ none_large 0 (map size word) _ small in
+      right_length span need (map size word) (length work) (omega arith) ∙ none_large 0 (map size word) _ small in
       record {
-        length_differs = λ h. refused-is r _ (wrong-length span need (map size word) (length work) (λ e. h (omega arith))) a;
-        work_short = λ h short. refused-is r _ (whole h ∙ memory_short need (length work) short) a;
-        answered = λ h fits. answered-is r (whole h ∙ memory-fits need (length work) fits) a;
+        length_differs = λ h. refused_is r _ (wrong_length span need (map size word) (length work) (λ e. h (omega arith))) a;
+        work_short = λ h short. refused_is r _ (whole h ∙ memory_short need (length work) short) a;
+        answered = λ h fits. answered_is r (whole h ∙ memory-fits need (length work) fits) a;
       }
     where
       some_of : {X : Type 0} (xs : List X) (k : ℕ) → k < length xs → X
@@ -57,7 +57,7 @@ pub searched : {R : Type 0} (weight : R → ℤ) (size : R → ℕ) (m s : ℕ) 
     Stands weight size m s h t → SearchRule weight span rows need (length work) (book_at weight size m s h t).totals r
 searched weight size m s h t span rows need work after r a st =
     subst (λ ws. SearchRule weight span rows need (length work) ws r) st.totals
-    (rule-of weight size span rows need (front t) work after r
+    (rule_of weight size span rows need (front t) work after r
     (λ k d hk.
     let l = length-take max_places (cells_of t) in
     let e = ap size (get_or-take max_places (cells_of t) k d (omega arith)) in

@@ -10,10 +10,10 @@ use Rattle.strip.specs.Strips.{CardRun, need_on}
 use Rattle.strip.specs.Finders.{FindersOf, need_by, rows_by, span_by}
 
 module _ {R : Type 0} (weight : R → ℤ) (size : R → ℕ) (m s : ℕ) (k : Card) (f : CardFinders) (of : FindersOf k f) where
-  pub by-card : (requests : List (Request Method)) (count : ℕ) (xs ys work after : List R) (old answers : List (Answer R)) →
+  pub by_card : (requests : List (Request Method)) (count : ℕ) (xs ys work after : List R) (old answers : List (Answer R)) →
       RanOver weight size m s (span_by f) (rows_by f) (need_by f) requests count xs ys work after old answers →
       CardRun weight size m s k requests count xs ys work after old answers
-  by-card requests count xs ys work after old answers ran =
+  by_card requests count xs ys work after old answers ran =
       let spans : span_by f ≡ (λ _. k.len) = λ i x. of.span x i in
       let rows : rows_by f ≡ (λ _. rows_of k) = λ i x. of.rows x i in
       let needs : need_by f ≡ need_on k = λ i x. of.need x i in

@@ -7,7 +7,7 @@ use Rattle.finder.proofs.Picks.{picked}
 use Rattle.finder.proofs.Refusals.{taken_sizes}
 use Rattle.coset_layer.specs.Pile.{cut_to}
 use Rattle.coset_layer.specs.Piles.{codeword-cut}
-use Rattle.coset_layer.proofs.Turns.{first-turn, last_turn, turn-takes, turn-keeps, choice_below, choice_shift, message_below}
+use Rattle.coset_layer.proofs.Turns.{first_turn, last_turn, turn_takes, turn_keeps, choice_below, choice_shift, message_below}
 use Rattle.coset_layer.proofs.search_choices.Goals as goal
 
 pub loop-choice-init : goal.loop-choice-init
@@ -16,7 +16,7 @@ loop-choice-init g c =
     let r = g.R.Reading in
     let rows = g.F.Finder.rows c.args.below.now in
     let own = cut_to c.args.n c.args.own.now in
-    let t = first-turn rows own (map r.weight c.args.word.now) (map r.weight c.search.new.word) (ap (map r.weight) h.same) c.in-Ok.found.message (r.weight c.in-Ok.found.reading) h.answer.is_best h.answer.weighs in
+    let t = first_turn rows own (map r.weight c.args.word.now) (map r.weight c.search.new.word) (ap (map r.weight) h.same) c.in-Ok.found.message (r.weight c.in-Ok.found.reading) h.answer.is_best h.answer.weighs in
     (refl, refl, t.0, t.1)
 
 pub search_negated-answer-requires : goal.search_negated-answer-requires
@@ -62,8 +62,8 @@ loop-choice-preserved g c =
     let t = picked (λ f. Top (agrees (rows ++ own) ws) ((ch + 1) * 2 ^ length rows) f.message × (r.weight f.reading ≡ agrees (rows ++ own) ws f.message))
     (lt_z x (r.weight y)) c.loop-choice.best _ c.or_heavier-best.result c.or_heavier-best.ensures
     (λ e. subst (λ (k : ℕ). Top (agrees (rows ++ own) ws) ((ch + 1) * 2 ^ length rows) k × (r.weight y ≡ agrees (rows ++ own) ws k)) (sym em)
-    (turn-takes rows own ws ch m c.loop-choice.best.message x (r.weight y) best wy c.loop-choice.invariant.2 c.loop-choice.invariant.3 e))
-    (λ e. turn-keeps rows own ws ch m c.loop-choice.best.message x (r.weight y) best wy c.loop-choice.invariant.2 c.loop-choice.invariant.3 e) in
+    (turn_takes rows own ws ch m c.loop-choice.best.message x (r.weight y) best wy c.loop-choice.invariant.2 c.loop-choice.invariant.3 e))
+    (λ e. turn_keeps rows own ws ch m c.loop-choice.best.message x (r.weight y) best wy c.loop-choice.invariant.2 c.loop-choice.invariant.3 e) in
     (c.search_negated-answer.ensures.same ∙ same, a.2 ∙ c.loop-choice.invariant.1, t.0, t.1)
 
 pub returns : goal.returns

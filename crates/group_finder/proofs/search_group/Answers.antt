@@ -8,7 +8,7 @@ use Rattle.hadamard.proofs.Entries.{at_take}
 use Rattle.finder.specs.Fold.{sum_of_slot}
 use Rattle.finder.proofs.Refusals.{taken_facts}
 use Rattle.group_finder.specs.Concurring.{concurs_at}
-use Rattle.group_finder.proofs.Whole.{sizes_fit, value-agrees, whole-best}
+use Rattle.group_finder.proofs.Whole.{sizes_fit, value_agrees, whole_best}
 use Rattle.group_finder.proofs.search_group.Goals as goal
 
 pub group_slots-slots-requires : goal.group_slots-slots-requires
@@ -81,7 +81,7 @@ returns-in-Ok g c =
     let top = c.over_choices.ensures.top in
     record {
       taken = folded.taken;
-      is_best = whole-best w z group others slots word list final span is room kinds entries sums done m top;
-      weighs = c.over_choices.ensures.weighs ∙ value-agrees w z group others slots word list final span is room kinds entries sums done m top.within;
+      is_best = whole_best w z group others slots word list final span is room kinds entries sums done m top;
+      weighs = c.over_choices.ensures.weighs ∙ value_agrees w z group others slots word list final span is room kinds entries sums done m top.within;
       beyond = drop-append-drop (k - 0) mid final k (omega arith) (c.transform_parts.auto.lists ∙ ll) ∙ folded.beyond;
     }

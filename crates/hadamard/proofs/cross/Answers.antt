@@ -1,5 +1,5 @@
 use Rattle.std.proofs.Common.{◌+◌, pos, ◌+ℤ◌, neg_ℤ, sym, ◌∙◌, ap₂, arith}
-use Rattle.hadamard.proofs.Butterflies.{cross-step}
+use Rattle.hadamard.proofs.Butterflies.{cross_step}
 use Rattle.hadamard.proofs.Entries.{two_le_at, read_at}
 use Rattle.hadamard.proofs.cross.Goals as goal
 
@@ -28,7 +28,7 @@ loop-k-preserved g c =
     let p = sym (read_at size cur k c.index-list-k.result 0 (omega arith) c.index-list-k.is) ∙ (c.loop-k.invariant.lower k (omega arith) (omega arith)).1 in
     let q = sym (read_at size cur (h + k) c.index-list-half.result 0 (omega arith) c.index-list-half.is) ∙ (c.loop-k.invariant.upper k (omega arith) (omega arith)).1 in
     let s = c.butterfly-sum.ensures in
-    cross-step weight size h k old cur (omega arith) c.loop-k-test.true c.loop-k.invariant c.butterfly-sum.result.0 c.butterfly-sum.result.1
+    cross_step weight size h k old cur (omega arith) c.loop-k-test.true c.loop-k.invariant c.butterfly-sum.result.0 c.butterfly-sum.result.1
     (s.sum ∙ ap₂ (λ u v. u +ℤ v) x y)
     (s.difference ∙ ap₂ (λ u v. u +ℤ neg_ℤ v) x y)
     (omega (arith, s.sum_size)) (omega (arith, s.difference_size))

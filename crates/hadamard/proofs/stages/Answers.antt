@@ -1,7 +1,7 @@
 use Rattle.std.proofs.Common.{◌≡◌, ℕ, ◌+◌, ◌-◌, ◌*◌, ◌/◌, ◌^◌, ◌≤◌, length, sum_by, sym, ap, ◌∙◌, subst, mul_assoc, mul-le-mul_left, arith, pow_pos}
 use Rattle.hadamard.specs.Stages.{Blocked, block}
 use Rattle.hadamard.proofs.Powers.{halved}
-use Rattle.hadamard.proofs.Blocks.{stride, blocked_start, blocked-end}
+use Rattle.hadamard.proofs.Blocks.{stride, blocked_start, blocked_end}
 use Rattle.hadamard.proofs.stages.Goals as goal
 
 pub loop-init : goal.loop-init
@@ -54,4 +54,4 @@ returns g c =
     let z : c.args.t - c.loop.counter ≡ 0 = omega arith in
     let one : c.loop.half ≡ 1 = c.loop.invariant.0 ∙ ap (λ k. 2 ^ k) z in
     let long : length old ≡ n = sym c.loop.auto.list ∙ c.loop.invariant.1 ∙ ap (λ m. n * m) one ∙ omega arith in
-    blocked-end weight size n old cur long c.loop.auto.list (subst (λ (m : ℕ). Blocked weight size m n old cur) one c.loop.invariant.2)
+    blocked_end weight size n old cur long c.loop.auto.list (subst (λ (m : ℕ). Blocked weight size m n old cur) one c.loop.invariant.2)

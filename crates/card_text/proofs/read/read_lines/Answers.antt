@@ -4,7 +4,7 @@ use Rattle.card.specs.Cards.{Card}
 use Rattle.card.specs.Tables.{card_of}
 use Rattle.card_text.specs.declared.fault.TextFault.{TextFault}
 use Rattle.card_text.specs.Drafts.{read_text_lem, stage_of}
-use Rattle.card_text.proofs.Readings.{left_more, left_break, left_fault, last-fault, last_done}
+use Rattle.card_text.proofs.Readings.{left_more, left_break, left_fault, last_fault, last_done}
 use Rattle.card_text.proofs.Said.{text_says-read}
 use Rattle.card_text.proofs.read.read_lines.Goals as goal
 use Rattle.card_text.proofs.read.read_lines.Goals.{then-byte-eq-NEWLINE+in_ok-draft, else-byte-eq-NEWLINE}
@@ -33,7 +33,7 @@ pub returns-in_err-last : goal.returns-in_err-last
 returns-in_err-last c =
     let bytes = c.args.bytes.now in
     let p = err_from_is_err_and c.from_residual-in_err-last.result c.from_residual-in_err-last.ensures.1 in
-    rw (p.1, p.2) (record { says = tt; answer = last-fault bytes c.loop-i.i c.loop-i.start c.loop-i.line (stage_of c.loop-i.draft) (read_text_lem bytes) (omega arith) c.loop-i.invariant c.in_err-last.field-0.0 c.in_err-last.ensures })
+    rw (p.1, p.2) (record { says = tt; answer = last_fault bytes c.loop-i.i c.loop-i.start c.loop-i.line (stage_of c.loop-i.draft) (read_text_lem bytes) (omega arith) c.loop-i.invariant c.in_err-last.field-0.0 c.in_err-last.ensures })
 
 pub returns-in-Ok : goal.returns-in-Ok
 returns-in-Ok c =

@@ -1,7 +1,7 @@
 use Rattle.std.proofs.Common.{ℕ, ◌+◌, ◌/◌, drop, sym, ap, ◌∙◌, arith}
 use lib.Bits.{bit_xor}
 use Rattle.code.specs.Words.{codeword}
-use Rattle.code.proofs.Codewords.{codeword-xor, sum-skips, sum-takes, sum_ends}
+use Rattle.code.proofs.Codewords.{codeword-xor, sum_skips, sum_takes, sum_ends}
 use Rattle.code.proofs.words.sum_chosen.Goals as goal
 use Rattle.code.proofs.words.sum_chosen.Goals.{then-rest-eq1, else-rest-eq1}
 
@@ -13,8 +13,8 @@ loop-row-preserved c =
     let so_far = c.loop-row.invariant in
     let tail : ℕ → ℕ = λ s. bit_xor s (codeword (drop (i + 1) rows) (rest / 2)) in
     elim c.if-rest-eq1.branch [
-      | then-rest-eq1 w ↦ ap tail w.sum-is ∙ sum-takes rows i c.loop-row.sum rest c.args.message c.loop-row-test.true so_far w.if-rest-eq1.true
-      | else-rest-eq1 w ↦ ap tail w.sum-is ∙ sum-skips rows i c.loop-row.sum rest c.args.message c.loop-row-test.true so_far w.if-rest-eq1.false
+      | then-rest-eq1 w ↦ ap tail w.sum-is ∙ sum_takes rows i c.loop-row.sum rest c.args.message c.loop-row-test.true so_far w.if-rest-eq1.true
+      | else-rest-eq1 w ↦ ap tail w.sum-is ∙ sum_skips rows i c.loop-row.sum rest c.args.message c.loop-row-test.true so_far w.if-rest-eq1.false
     ]
 
 pub returns : goal.returns

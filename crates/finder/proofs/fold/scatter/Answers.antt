@@ -6,7 +6,7 @@ use Rattle.code.specs.Limits.{size_limit}
 use Rattle.hadamard.specs.Transform.{weight_at}
 use Rattle.hadamard.proofs.Entries.{read_at}
 use Rattle.finder.specs.Fold.{sum_of_slot}
-use Rattle.finder.proofs.Folds.{fold-skips, fold_step, total-step}
+use Rattle.finder.proofs.Folds.{fold_skips, fold_step, total_step}
 use Rattle.finder.proofs.fold.scatter.Goals as goal
 use Rattle.finder.proofs.fold.scatter.Goals.{then-at-list, else-at-list}
 
@@ -42,11 +42,11 @@ loop-i-preserved g c =
           let small = All-get_or (λ x. size x ≤ size_limit) word i b.index-word-i.result c.loop-i-test.true c.requires.small in
           subst (λ (l : List _). ((x : ℕ) → x < length l → weight_at w l x ≡ sum_of_slot (λ k. get_or slots k 0) (weight_at w word) (i + 1) x) × (sum_by size l ≤ (i + 1) * size_limit)) (sym b.list-is) (
             λ x l. fold_step w size slots word cur i v low c.loop-i.invariant.0 (b.add.ensures.weighs ∙ ap₂ (λ a b. a +ℤ b) (sym old) (sym new)) x (simp length-set at l),
-            total-step w size slots word cur i v low b.index-list-at.result b.index-list-at.is (size b.index-word-i.result) b.add.ensures.small (omega arith) c.loop-i.invariant.1,
+            total_step w size slots word cur i v low b.index-list-at.result b.index-list-at.is (size b.index-word-i.result) b.add.ensures.small (omega arith) c.loop-i.invariant.1,
           )
       | else-at-list b ↦
           let high : length cur ≤ get_or slots i 0 = b.if-at-list.false in
           let t = c.loop-i.invariant.1 in
           subst (λ (l : List _). ((x : ℕ) → x < length l → weight_at w l x ≡ sum_of_slot (λ k. get_or slots k 0) (weight_at w word) (i + 1) x) × (sum_by size l ≤ (i + 1) * size_limit)) (sym b.list-is)
-          (fold-skips w size slots word cur i high c.loop-i.invariant.0, omega arith)
+          (fold_skips w size slots word cur i high c.loop-i.invariant.0, omega arith)
     ]

@@ -4,7 +4,7 @@ use Rattle.std.proofs.lemmas.Int.{ints}
 use Rattle.code.specs.Words.{Top}
 use Rattle.hadamard.specs.Transform.{weight_at}
 use Rattle.hadamard.proofs.Entries.{read_at}
-use Rattle.finder.proofs.Picks.{picked, less, not_less, largest-takes, largest-keeps, largest_first}
+use Rattle.finder.proofs.Picks.{picked, less, not_less, largest_takes, largest_keeps, largest_first}
 use Rattle.finder.proofs.plain.first_largest.Goals as goal
 
 pub loop-i-init : goal.loop-i-init
@@ -21,8 +21,8 @@ loop-i-preserved g c =
     let held = c.loop-i.invariant.1 in
     picked (λ b. Top f (i + 1) b.message × (w b.reading ≡ f b.message))
     (lt_z (w c.loop-i.best.reading) (w x)) c.loop-i.best _ c.or_heavier-best.result c.or_heavier-best.ensures
-    (λ e. let l = less (w c.loop-i.best.reading) (w x) e in (largest-takes f i m c.loop-i.invariant.0 (omega (arith, ints)), sym read))
-    (λ e. let l = not_less (w c.loop-i.best.reading) (w x) e in (largest-keeps f i m c.loop-i.invariant.0 (omega (arith, ints)), held))
+    (λ e. let l = less (w c.loop-i.best.reading) (w x) e in (largest_takes f i m c.loop-i.invariant.0 (omega (arith, ints)), sym read))
+    (λ e. let l = not_less (w c.loop-i.best.reading) (w x) e in (largest_keeps f i m c.loop-i.invariant.0 (omega (arith, ints)), held))
 
 pub returns : goal.returns
 returns g c =

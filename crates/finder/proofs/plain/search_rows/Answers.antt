@@ -4,12 +4,12 @@ use Rattle.std.proofs.lemmas.List.{length-take-le, length-map}
 use Rattle.std.proofs.lemmas.Slice.{drop-append-drop}
 use Rattle.code.specs.Limits.{sum_limit}
 use Rattle.code.specs.Words.{Top, agrees}
-use Rattle.code.proofs.Tops.{top-same}
+use Rattle.code.proofs.Tops.{top_same}
 use Rattle.hadamard.specs.Transform.{weight_at, Transformed}
 use Rattle.hadamard.proofs.Entries.{at_take}
 use Rattle.finder.specs.Fold.{sum_of_slot}
 use Rattle.finder.proofs.Refusals.{taken_facts}
-use Rattle.finder.specs.PlainRows.{transform_taken, holds-agreements}
+use Rattle.finder.specs.PlainRows.{transform_taken, holds_agreements}
 use Rattle.finder.proofs.plain.search_rows.Goals as goal
 
 pub slice_bounds-list-end : goal.slice_bounds-list-end
@@ -56,13 +56,13 @@ returns-in-Ok g c =
     let most = c.args.span.lawful.1 in
     let small : sum_by z list ≤ sum_limit = (let t = folded.total in let u = ap (sum_by z) is in omega arith) in
     let done : Transformed w z list final = transform_taken c.transform.result (Transformed w z list final) (λ _. final ≡ list) (length list) (sum_by z list) (length rows) c.requires.few room small c.transform.ensures.value c.transform.ensures.list in
-    let same = holds-agreements w z rows c.args.slots.now word list final c.requires.few room (λ i l. c.requires.columns i (omega arith))
+    let same = holds_agreements w z rows c.args.slots.now word list final c.requires.few room (λ i l. c.requires.columns i (omega arith))
     (λ x l. at_take w (pos 0) (k - 0) mid x (omega arith) ∙ folded.sums x (omega arith) ∙ ap (λ (j : ℕ). sum_of_slot (λ i. get_or c.args.slots.now i 0) (weight_at w word) j x) lw) done in
     let m = c.first_largest.result.message in
     let top = subst (λ (j : ℕ). Top (weight_at w final) j m) (c.transform.auto.list ∙ room) c.first_largest.ensures.top in
     record {
       taken = folded.taken;
-      is_best = top-same (weight_at w final) (agrees rows (map w word)) (2 ^ length rows) m same top;
+      is_best = top_same (weight_at w final) (agrees rows (map w word)) (2 ^ length rows) m same top;
       weighs = c.first_largest.ensures.weighs ∙ same m top.within;
       beyond = drop-append-drop (k - 0) mid final k (omega arith) (c.transform.auto.list ∙ length-take-le (k - 0) mid (omega arith)) ∙ folded.beyond;
     }

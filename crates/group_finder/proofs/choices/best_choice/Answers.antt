@@ -9,17 +9,17 @@ use Rattle.group_finder.proofs.choices.best_choice.Goals as goal
 
 -- the readings of the places with no group digit and with all of them
 module _ {R Y : Type 0} (f : R → Y) (d : Y) (lists : List R) (span t count : ℕ) (low : t < span) (long : length lists ≡ (count + 2) * span) (x : R) where
-  rest-is : x ≡ get_or lists t x → get_or (map f lists) t d ≡ f x
-  rest-is is = (let h = index_below 0 (count + 2) span t (omega arith) low in read_at f lists t x d (omega arith) is)
+  rest_is : x ≡ get_or lists t x → get_or (map f lists) t d ≡ f x
+  rest_is is = (let h = index_below 0 (count + 2) span t (omega arith) low in read_at f lists t x d (omega arith) is)
 
-  all-is : x ≡ get_or lists ((count + 1) * span + t) x → get_or (map f lists) ((count + 1) * span + t) d ≡ f x
-  all-is is = (let h = index_below (count + 1) (count + 2) span t (omega arith) low in read_at f lists ((count + 1) * span + t) x d (omega arith) is)
+  all_is : x ≡ get_or lists ((count + 1) * span + t) x → get_or (map f lists) ((count + 1) * span + t) d ≡ f x
+  all_is is = (let h = index_below (count + 1) (count + 2) span t (omega arith) low in read_at f lists ((count + 1) * span + t) x d (omega arith) is)
 
 pub add-requires : goal.add-requires
 add-requires g c =
     let z = g.R.Reading.size in
-    let a = rest-is z 0 c.args.lists.now c.args.span c.args.t c.args.count c.requires.few.1 c.requires.long c.index-lists-t.result c.index-lists-t.is in
-    let b = all-is z 0 c.args.lists.now c.args.span c.args.t c.args.count c.requires.few.1 c.requires.long c.index-lists-count.result c.index-lists-count.is in
+    let a = rest_is z 0 c.args.lists.now c.args.span c.args.t c.args.count c.requires.few.1 c.requires.long c.index-lists-t.result c.index-lists-t.is in
+    let b = all_is z 0 c.args.lists.now c.args.span c.args.t c.args.count c.requires.few.1 c.requires.long c.index-lists-count.result c.index-lists-count.is in
     let s = c.requires.small in
     omega arith
 
@@ -32,8 +32,8 @@ returns-then-count-eq0 g c =
     let W : ℕ → ℤ = λ q. weight_at w lists (q * span + t) in
     let e0 : 0 * span + t ≡ t = omega arith in
     let z : c.args.count ≡ 0 = c.if-count-eq0.true in
-    let a = ap (weight_at w lists) e0 ∙ rest-is w (pos 0) lists span t c.args.count c.requires.few.1 c.requires.long c.index-lists-t.result c.index-lists-t.is in
-    let b = all-is w (pos 0) lists span t c.args.count c.requires.few.1 c.requires.long c.index-lists-count.result c.index-lists-count.is in
+    let a = ap (weight_at w lists) e0 ∙ rest_is w (pos 0) lists span t c.args.count c.requires.few.1 c.requires.long c.index-lists-t.result c.index-lists-t.is in
+    let b = all_is w (pos 0) lists span t c.args.count c.requires.few.1 c.requires.long c.index-lists-count.result c.index-lists-count.is in
     let n = none_best W in
     let v : w c.add.result ≡ W 0 +ℤ W (c.args.count + 1) = c.add.ensures.weighs ∙ ap₂ (λ x y. x +ℤ y) (sym a) (sym b) in
     record {
@@ -44,7 +44,7 @@ returns-then-count-eq0 g c =
 pub plus_minus-up-requires : goal.plus_minus-up-requires
 plus_minus-up-requires g c =
     let z = g.R.Reading.size in
-    let b = all-is z 0 c.args.lists.now c.args.span c.args.t c.args.count c.requires.few.1 c.requires.long c.index-lists-count.result c.index-lists-count.is in
+    let b = all_is z 0 c.args.lists.now c.args.span c.args.t c.args.count c.requires.few.1 c.requires.long c.index-lists-count.result c.index-lists-count.is in
     let s = c.requires.small in
     let e = c.by_parity-even.ensures.even_small in
     let o = c.by_parity-even.ensures.odd_small in
@@ -53,8 +53,8 @@ plus_minus-up-requires g c =
 pub add-requires-2 : goal.add-requires-2
 add-requires-2 g c =
     let z = g.R.Reading.size in
-    let a = rest-is z 0 c.args.lists.now c.args.span c.args.t c.args.count c.requires.few.1 c.requires.long c.index-lists-t.result c.index-lists-t.is in
-    let b = all-is z 0 c.args.lists.now c.args.span c.args.t c.args.count c.requires.few.1 c.requires.long c.index-lists-count.result c.index-lists-count.is in
+    let a = rest_is z 0 c.args.lists.now c.args.span c.args.t c.args.count c.requires.few.1 c.requires.long c.index-lists-t.result c.index-lists-t.is in
+    let b = all_is z 0 c.args.lists.now c.args.span c.args.t c.args.count c.requires.few.1 c.requires.long c.index-lists-count.result c.index-lists-count.is in
     let s = c.requires.small in
     let e = c.by_parity-even.ensures.even_small in
     let o = c.by_parity-even.ensures.odd_small in
@@ -72,8 +72,8 @@ returns g c =
     let W : ℕ → ℤ = λ q. weight_at w lists (q * span + t) in
     let all = c.index-lists-count.result in
     let e0 : 0 * span + t ≡ t = omega arith in
-    let a = ap (weight_at w lists) e0 ∙ rest-is w (pos 0) lists span t c.args.count c.requires.few.1 c.requires.long c.index-lists-t.result c.index-lists-t.is in
-    let b = all-is w (pos 0) lists span t c.args.count c.requires.few.1 c.requires.long all c.index-lists-count.is in
+    let a = ap (weight_at w lists) e0 ∙ rest_is w (pos 0) lists span t c.args.count c.requires.few.1 c.requires.long c.index-lists-t.result c.index-lists-t.is in
+    let b = all_is w (pos 0) lists span t c.args.count c.requires.few.1 c.requires.long all c.index-lists-count.is in
     let p = c.by_parity-even.result in
     let r = settled w z W (λ i. size_at z lists ((i + 1) * span + t)) c.args.count p.0.message p.0.reading p.1.message p.1.reading c.by_parity-even.ensures
     c.plus_minus-up.result.0 c.plus_minus-up.result.1 c.better-best.result.reading c.add-2.result c.better-best.result.message

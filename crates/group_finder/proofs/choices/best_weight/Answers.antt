@@ -5,23 +5,23 @@ use Rattle.code.specs.Words.{Top}
 use Rattle.group_finder.specs.Choices.{choice_value}
 use Rattle.group_finder.proofs.Parities.{none_best}
 use Rattle.group_finder.proofs.GroupRows.{index_below}
-use Rattle.group_finder.proofs.Weights.{heavier_small, settled-weight}
+use Rattle.group_finder.proofs.Weights.{heavier_small, settled_weight}
 use lib.Signed.{lt_z}
 use Rattle.group_finder.proofs.choices.best_weight.Goals as goal
 
 -- the readings of the places with no group digit and with all of them
 module _ {R Y : Type 0} (f : R → Y) (d : Y) (lists : List R) (span t count : ℕ) (low : t < span) (long : length lists ≡ (count + 2) * span) (x : R) where
-  rest-is : x ≡ get_or lists t x → get_or (map f lists) t d ≡ f x
-  rest-is is = (let h = index_below 0 (count + 2) span t (omega arith) low in read_at f lists t x d (omega arith) is)
+  rest_is : x ≡ get_or lists t x → get_or (map f lists) t d ≡ f x
+  rest_is is = (let h = index_below 0 (count + 2) span t (omega arith) low in read_at f lists t x d (omega arith) is)
 
-  all-is : x ≡ get_or lists ((count + 1) * span + t) x → get_or (map f lists) ((count + 1) * span + t) d ≡ f x
-  all-is is = (let h = index_below (count + 1) (count + 2) span t (omega arith) low in read_at f lists ((count + 1) * span + t) x d (omega arith) is)
+  all_is : x ≡ get_or lists ((count + 1) * span + t) x → get_or (map f lists) ((count + 1) * span + t) d ≡ f x
+  all_is is = (let h = index_below (count + 1) (count + 2) span t (omega arith) low in read_at f lists ((count + 1) * span + t) x d (omega arith) is)
 
 pub add-requires : goal.add-requires
 add-requires g c =
     let z = g.R.Reading.size in
-    let a = rest-is z 0 c.args.lists.now c.args.span c.args.t c.args.count c.requires.few.1 c.requires.long c.index-lists-t.result c.index-lists-t.is in
-    let b = all-is z 0 c.args.lists.now c.args.span c.args.t c.args.count c.requires.few.1 c.requires.long c.index-lists-count.result c.index-lists-count.is in
+    let a = rest_is z 0 c.args.lists.now c.args.span c.args.t c.args.count c.requires.few.1 c.requires.long c.index-lists-t.result c.index-lists-t.is in
+    let b = all_is z 0 c.args.lists.now c.args.span c.args.t c.args.count c.requires.few.1 c.requires.long c.index-lists-count.result c.index-lists-count.is in
     let s = c.requires.small in
     omega arith
 
@@ -34,8 +34,8 @@ returns-then-count-eq0 g c =
     let W : ℕ → ℤ = λ q. weight_at w lists (q * span + t) in
     let e0 : 0 * span + t ≡ t = omega arith in
     let z : c.args.count ≡ 0 = c.if-count-eq0.true in
-    let a = ap (weight_at w lists) e0 ∙ rest-is w (pos 0) lists span t c.args.count c.requires.few.1 c.requires.long c.index-lists-t.result c.index-lists-t.is in
-    let b = all-is w (pos 0) lists span t c.args.count c.requires.few.1 c.requires.long c.index-lists-count.result c.index-lists-count.is in
+    let a = ap (weight_at w lists) e0 ∙ rest_is w (pos 0) lists span t c.args.count c.requires.few.1 c.requires.long c.index-lists-t.result c.index-lists-t.is in
+    let b = all_is w (pos 0) lists span t c.args.count c.requires.few.1 c.requires.long c.index-lists-count.result c.index-lists-count.is in
     let n = none_best W in
     let v : w c.add.result ≡ W 0 +ℤ W (c.args.count + 1) = c.add.ensures.weighs ∙ ap₂ (λ x y. x +ℤ y) (sym a) (sym b) in
     record {
@@ -47,7 +47,7 @@ returns-then-count-eq0 g c =
 pub plus_minus-up-requires : goal.plus_minus-up-requires
 plus_minus-up-requires g c =
     let z = g.R.Reading.size in
-    let b = all-is z 0 c.args.lists.now c.args.span c.args.t c.args.count c.requires.few.1 c.requires.long c.index-lists-count.result c.index-lists-count.is in
+    let b = all_is z 0 c.args.lists.now c.args.span c.args.t c.args.count c.requires.few.1 c.requires.long c.index-lists-count.result c.index-lists-count.is in
     let s = c.requires.small in
     let e = c.weights_by_parity-even.ensures.best.even_small in
     let o = c.weights_by_parity-even.ensures.best.odd_small in
@@ -56,8 +56,8 @@ plus_minus-up-requires g c =
 pub add-requires-2 : goal.add-requires-2
 add-requires-2 g c =
     let z = g.R.Reading.size in
-    let a = rest-is z 0 c.args.lists.now c.args.span c.args.t c.args.count c.requires.few.1 c.requires.long c.index-lists-t.result c.index-lists-t.is in
-    let b = all-is z 0 c.args.lists.now c.args.span c.args.t c.args.count c.requires.few.1 c.requires.long c.index-lists-count.result c.index-lists-count.is in
+    let a = rest_is z 0 c.args.lists.now c.args.span c.args.t c.args.count c.requires.few.1 c.requires.long c.index-lists-t.result c.index-lists-t.is in
+    let b = all_is z 0 c.args.lists.now c.args.span c.args.t c.args.count c.requires.few.1 c.requires.long c.index-lists-count.result c.index-lists-count.is in
     let s = c.requires.small in
     let e = c.weights_by_parity-even.ensures.best.even_small in
     let o = c.weights_by_parity-even.ensures.best.odd_small in
@@ -76,11 +76,11 @@ returns g c =
     let W : ℕ → ℤ = λ q. weight_at w lists (q * span + t) in
     let all = c.index-lists-count.result in
     let e0 : 0 * span + t ≡ t = omega arith in
-    let a = ap (weight_at w lists) e0 ∙ rest-is w (pos 0) lists span t c.args.count c.requires.few.1 c.requires.long c.index-lists-t.result c.index-lists-t.is in
-    let b = all-is w (pos 0) lists span t c.args.count c.requires.few.1 c.requires.long all c.index-lists-count.is in
+    let a = ap (weight_at w lists) e0 ∙ rest_is w (pos 0) lists span t c.args.count c.requires.few.1 c.requires.long c.index-lists-t.result c.index-lists-t.is in
+    let b = all_is w (pos 0) lists span t c.args.count c.requires.few.1 c.requires.long all c.index-lists-count.is in
     let p = c.weights_by_parity-even.result in
     let v = c.weights_by_parity-even.ensures in
-    settled-weight w z W (λ i. size_at z lists ((i + 1) * span + t)) c.args.count v.even_choice p.0 v.odd_choice p.1 v.best
+    settled_weight w z W (λ i. size_at z lists ((i + 1) * span + t)) c.args.count v.even_choice p.0 v.odd_choice p.1 v.best
     c.plus_minus-up.result.0 c.plus_minus-up.result.1 c.add-2.result
     (c.plus_minus-up.ensures.sum ∙ ap (λ x. w p.0 +ℤ x) (sym b)) (c.plus_minus-up.ensures.difference ∙ ap (λ x. w p.1 +ℤ neg_ℤ x) (sym b))
     c.heavier.result c.heavier.ensures (c.add-2.ensures.weighs ∙ ap (λ x. x +ℤ w c.heavier.result) (sym a))

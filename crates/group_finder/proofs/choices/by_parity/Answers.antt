@@ -3,7 +3,7 @@ use Rattle.code.specs.Limits.{sum_limit}
 use Rattle.hadamard.specs.Transform.{weight_at, size_at}
 use Rattle.hadamard.proofs.Entries.{read_at}
 use Rattle.group_finder.specs.Choices.{ByParity}
-use Rattle.group_finder.proofs.GroupRows.{parity-step, parity-room, parity_first, bit_is, bit_small, index_below}
+use Rattle.group_finder.proofs.GroupRows.{parity_step, parity_room, parity_first, bit_is, bit_small, index_below}
 use Rattle.group_finder.proofs.Sizes.{totalled_le}
 use Rattle.group_finder.proofs.choices.by_parity.Goals as goal
 
@@ -64,7 +64,7 @@ extend-next-requires g c =
     let b = bit_is j j8 in
     let bs = bit_small j j8 in
     let o = c.loop-j.invariant.odd.within in
-    record { size = parity-room w z (λ i. weight_at w lists ((i + 1) * span + t)) (λ i. size_at z lists ((i + 1) * span + t)) j x (sym wx) (sym zx) (2 ^ j) refl c.args.count _ _ _ _ c.loop-j.invariant c.loop-j-test.true c.requires.small; fits = omega arith }
+    record { size = parity_room w z (λ i. weight_at w lists ((i + 1) * span + t)) (λ i. size_at z lists ((i + 1) * span + t)) j x (sym wx) (sym zx) (2 ^ j) refl c.args.count _ _ _ _ c.loop-j.invariant c.loop-j-test.true c.requires.small; fits = omega arith }
 
 pub extend-odd-requires : goal.extend-odd-requires
 extend-odd-requires g c =
@@ -85,7 +85,7 @@ extend-odd-requires g c =
     let b = bit_is j j8 in
     let bs = bit_small j j8 in
     let o = c.loop-j.invariant.even.within in
-    let r = parity-room w z (λ i. weight_at w lists ((i + 1) * span + t)) (λ i. size_at z lists ((i + 1) * span + t)) j x (sym wx) (sym zx) (2 ^ j) refl c.args.count _ _ _ _ c.loop-j.invariant c.loop-j-test.true c.requires.small in
+    let r = parity_room w z (λ i. weight_at w lists ((i + 1) * span + t)) (λ i. size_at z lists ((i + 1) * span + t)) j x (sym wx) (sym zx) (2 ^ j) refl c.args.count _ _ _ _ c.loop-j.invariant c.loop-j-test.true c.requires.small in
     record { size = omega arith; fits = omega arith }
 
 pub loop-j-preserved : goal.loop-j-preserved
@@ -104,7 +104,7 @@ loop-j-preserved g c =
     let wx = read_at w lists ((j + 1) * span + t) x (pos 0) lt c.index-lists-j.is in
     let zx = read_at z lists ((j + 1) * span + t) x 0 lt c.index-lists-j.is in
     let j8 : j ≤ 8 = omega arith in
-    parity-step w z (λ i. weight_at w lists ((i + 1) * span + t)) (λ i. size_at z lists ((i + 1) * span + t)) j x (sym wx) (sym zx) ((1 * 2 ^ j) % 4294967296) (bit_is j j8)
+    parity_step w z (λ i. weight_at w lists ((i + 1) * span + t)) (λ i. size_at z lists ((i + 1) * span + t)) j x (sym wx) (sym zx) ((1 * 2 ^ j) % 4294967296) (bit_is j j8)
     c.loop-j.even.message c.loop-j.even.reading c.loop-j.odd.message c.loop-j.odd.reading c.loop-j.invariant
     c.extend-next.result.message c.extend-next.result.reading c.extend-odd.result.message c.extend-odd.result.reading c.extend-next.ensures c.extend-odd.ensures
 

@@ -3,7 +3,7 @@ use Rattle.std.proofs.lemmas.Nat.{shl_whole}
 use Rattle.hadamard.specs.Transform.{weight_at}
 use Rattle.finder.proofs.Picks.{less, not_less}
 use Rattle.group_finder.specs.Choices.{BestBefore}
-use Rattle.group_finder.proofs.Weights.{keeps-best, takes-best}
+use Rattle.group_finder.proofs.Weights.{keeps_best, takes_best}
 use Rattle.group_finder.proofs.choices.or_better_at.Goals as goal
 
 pub returns-then-not-below : goal.returns-then-not-below
@@ -11,7 +11,7 @@ returns-then-not-below g c = λ best.
     let w = g.R.Reading.weight in
     let x = c.args.best.reading in
     let y = c.best_weight-weight.result in
-    keeps-best w (weight_at w c.args.lists.now) c.args.span c.args.count c.args.t c.args.best.message x y best c.best_weight-weight.ensures
+    keeps_best w (weight_at w c.args.lists.now) c.args.span c.args.count c.args.t c.args.best.message x y best c.best_weight-weight.ensures
     (not_less (w x) (w y) (sym c.below.ensures ∙ c.if-not-below.true))
 
 pub returns : goal.returns
@@ -32,5 +32,5 @@ returns g c = λ best.
     let sh : (t * 2 ^ J) % 2 ^ 32 ≡ t * 2 ^ J = shl_whole t 16 J 32 tb (omega arith) in
     let em : n + (t * 2 ^ J) % 2 ^ 32 ≡ n + t * 2 ^ J = ap (λ (k : ℕ). n + k) sh in
     subst (λ (k : ℕ). BestBefore w f span J (t + 1) k r) (sym em)
-    (takes-best w f span J t c.args.best.message x y best c.best_weight-weight.ensures (less (w x) (w y) (sym c.below.ensures ∙ c.if-not-below.false)) n r
+    (takes_best w f span J t c.args.best.message x y best c.best_weight-weight.ensures (less (w x) (w y) (sym c.below.ensures ∙ c.if-not-below.false)) n r
     c.best_choice-found.ensures.top c.best_choice-found.ensures.weighs)

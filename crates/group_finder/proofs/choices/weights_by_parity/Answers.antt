@@ -3,7 +3,7 @@ use Rattle.code.specs.Limits.{sum_limit}
 use Rattle.hadamard.specs.Transform.{weight_at, size_at}
 use Rattle.hadamard.proofs.Entries.{read_at}
 use Rattle.group_finder.specs.Choices.{WeightsByParity}
-use Rattle.group_finder.proofs.GroupRows.{parity-step, parity-room, parity_first, index_below}
+use Rattle.group_finder.proofs.GroupRows.{parity_step, parity_room, parity_first, index_below}
 use Rattle.group_finder.proofs.Sizes.{totalled_le}
 use Rattle.group_finder.proofs.choices.weights_by_parity.Goals as goal
 
@@ -61,7 +61,7 @@ extend_weight-next-requires g c =
     let x = c.index-lists-j.result in
     let wx = read_at w lists ((j + 1) * span + t) x (pos 0) lt c.index-lists-j.is in
     let zx = read_at z lists ((j + 1) * span + t) x 0 lt c.index-lists-j.is in
-    parity-room w z (λ i. weight_at w lists ((i + 1) * span + t)) (λ i. size_at z lists ((i + 1) * span + t)) j x (sym wx) (sym zx) (2 ^ j) refl c.args.count _ _ _ _ c.loop-j.invariant.best c.loop-j-test.true c.requires.small
+    parity_room w z (λ i. weight_at w lists ((i + 1) * span + t)) (λ i. size_at z lists ((i + 1) * span + t)) j x (sym wx) (sym zx) (2 ^ j) refl c.args.count _ _ _ _ c.loop-j.invariant.best c.loop-j-test.true c.requires.small
 
 pub extend_weight-odd-requires : goal.extend_weight-odd-requires
 extend_weight-odd-requires g c =
@@ -78,7 +78,7 @@ extend_weight-odd-requires g c =
     let x = c.index-lists-j.result in
     let wx = read_at w lists ((j + 1) * span + t) x (pos 0) lt c.index-lists-j.is in
     let zx = read_at z lists ((j + 1) * span + t) x 0 lt c.index-lists-j.is in
-    let r = parity-room w z (λ i. weight_at w lists ((i + 1) * span + t)) (λ i. size_at z lists ((i + 1) * span + t)) j x (sym wx) (sym zx) (2 ^ j) refl c.args.count _ _ _ _ c.loop-j.invariant.best c.loop-j-test.true c.requires.small in
+    let r = parity_room w z (λ i. weight_at w lists ((i + 1) * span + t)) (λ i. size_at z lists ((i + 1) * span + t)) j x (sym wx) (sym zx) (2 ^ j) refl c.args.count _ _ _ _ c.loop-j.invariant.best c.loop-j-test.true c.requires.small in
     omega arith
 
 pub loop-j-preserved : goal.loop-j-preserved
@@ -102,7 +102,7 @@ loop-j-preserved g c =
     record {
       even_choice = e.0;
       odd_choice = o.0;
-      best = parity-step w z (λ i. weight_at w lists ((i + 1) * span + t)) (λ i. size_at z lists ((i + 1) * span + t)) j x (sym wx) (sym zx) (2 ^ j) refl
+      best = parity_step w z (λ i. weight_at w lists ((i + 1) * span + t)) (λ i. size_at z lists ((i + 1) * span + t)) j x (sym wx) (sym zx) (2 ^ j) refl
           inv.even_choice c.loop-j.even inv.odd_choice c.loop-j.odd inv.best e.0 c.extend_weight-next.result o.0 c.extend_weight-odd.result e.1 o.1;
     }
 

@@ -4,7 +4,7 @@ use Rattle.code.specs.Limits.{sum_limit}
 use Rattle.hadamard.specs.Transform.{Transformed}
 use Rattle.group_finder.specs.Choices.{PartsDone}
 use Rattle.finder.specs.PlainRows.{transform_taken}
-use Rattle.group_finder.proofs.Parts.{room, part_same, part-long, part_small, parts-step, parts-rest}
+use Rattle.group_finder.proofs.Parts.{room, part_same, part_long, part_small, parts_step, parts_rest}
 use Rattle.group_finder.proofs.slots.transform_parts.Goals as goal
 
 pub offset_bounds-lists-from : goal.offset_bounds-lists-from
@@ -37,13 +37,13 @@ loop-q-preserved g c =
     let rest = c.loop-q.invariant.1 in
     let k : q * span + span - q * span ≡ span = omega arith in
     let mid : take (q * span + span - q * span) (drop (q * span) cur) ≡ take span (drop (q * span) old) = ap (λ (j : ℕ). take j (drop (q * span) cur)) k ∙ part_same w z span q count old cur ys long low rest in
-    let lmid : length (take (q * span + span - q * span) (drop (q * span) cur)) ≡ span = ap (λ (j : ℕ). length (take j (drop (q * span) cur))) k ∙ part-long w z span q count old cur ys long low rest in
+    let lmid : length (take (q * span + span - q * span) (drop (q * span) cur)) ≡ span = ap (λ (j : ℕ). length (take j (drop (q * span) cur))) k ∙ part_long w z span q count old cur ys long low rest in
     let small : sum_by z (take (q * span + span - q * span) (drop (q * span) cur)) ≤ sum_limit = (let e = ap (sum_by z) mid in let s = part_small w z span q count old cur ys long low rest c.requires.small in omega arith) in
     let tr : Transformed w z (take (q * span + span - q * span) (drop (q * span) cur)) ys =
     transform_taken c.transform.result (Transformed w z (take (q * span + span - q * span) (drop (q * span) cur)) ys) (λ _. ys ≡ take (q * span + span - q * span) (drop (q * span) cur))
     (length (take (q * span + span - q * span) (drop (q * span) cur))) (sum_by z (take (q * span + span - q * span) (drop (q * span) cur))) c.args.power (let q = c.requires.power.0 in omega arith) (lmid ∙ c.requires.power.1) small c.transform.ensures.value c.transform.ensures.list in
     let tr' = subst (λ (l : List g.row.R.Denot). Transformed w z l ys) mid tr in
     let lys : length ys ≡ span = c.transform.auto.list ∙ lmid in (
-      subst (λ (j : ℕ). PartsDone w z span (q + 1) old (put_mid (q * span) j cur ys)) (sym k) (parts-step w z span q count old cur ys long low rest lys c.loop-q.invariant.0 tr'),
-      subst (λ (j : ℕ). drop ((q + 1) * span) (put_mid (q * span) j cur ys) ≡ drop ((q + 1) * span) old) (sym k) (parts-rest w z span q count old cur ys long low rest lys c.loop-q.invariant.0 tr'),
+      subst (λ (j : ℕ). PartsDone w z span (q + 1) old (put_mid (q * span) j cur ys)) (sym k) (parts_step w z span q count old cur ys long low rest lys c.loop-q.invariant.0 tr'),
+      subst (λ (j : ℕ). drop ((q + 1) * span) (put_mid (q * span) j cur ys) ≡ drop ((q + 1) * span) old) (sym k) (parts_rest w z span q count old cur ys long low rest lys c.loop-q.invariant.0 tr'),
     )

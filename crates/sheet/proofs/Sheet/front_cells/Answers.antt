@@ -1,5 +1,5 @@
-use Rattle.sheet.proofs.Fronts.{part-is}
+use Rattle.sheet.proofs.Fronts.{part_is}
 use Rattle.sheet.proofs.Sheet.front_cells.Goals as goal
 
 pub returns : goal.returns
-returns g c = part-is c.args.self.now.cells.now c.covering-n.result c.covering-n.ensures
+returns g c = part_is c.args.self.now.cells.now c.covering-n.result c.covering-n.ensures

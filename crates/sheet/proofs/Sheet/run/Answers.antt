@@ -1,7 +1,7 @@
 use Rattle.std.proofs.Common.{◌≡◌, ◌+◌, ◌<◌, length, drop, ◌∙◌, subst, arith}
 use Rattle.std.proofs.lemmas.List.{drop-set-lt}
 use Rattle.sheet.specs.Runs.{Ran, Spared}
-use Rattle.sheet.proofs.Runs.{ran-more, spared_more, kept_then, drop_further}
+use Rattle.sheet.proofs.Runs.{ran_more, spared_more, kept_then, drop_further}
 use Rattle.sheet.proofs.Sheet.run.Goals as goal
 
 pub loop-i-preserved : goal.loop-i-preserved
@@ -11,7 +11,7 @@ loop-i-preserved g c =
     let law = c.serve.ensures.law in
     let wi : i < length c.args.requests.now = omega arith in
     let wa : i < length c.loop-i.answers = omega arith in (
-      λ h st. ran-more _ _ _ _ _ _ _ _ _ h i c.args.self.now c.loop-i.self c.serve.new.self c.loop-i.answers _ _ _
+      λ h st. ran_more _ _ _ _ _ _ _ _ _ h i c.args.self.now c.loop-i.self c.serve.new.self c.loop-i.answers _ _ _
           c.loop-i.auto.work wi wa c.index-requests-i.is v.1.long law.book (v.0 h st),
       kept_then v.1 law.kept,
       spared_more g.F.Finder.need c.args.requests.now i c.loop-i.answers _ c.serve.result _ _ _ wi wa c.index-requests-i.is law.spared v.2,

@@ -1,8 +1,8 @@
 use Rattle.std.proofs.Common.{refl, subst, MatchResult}
 use Rattle.finder.specs.Search.{Answered, Refused}
-use Rattle.sheet.proofs.Books.{not-moved}
+use Rattle.sheet.proofs.Books.{not_moved}
 use Rattle.sheet.proofs.Searches.{searched}
-use Rattle.sheet.proofs.Fronts.{part-is, put_back}
+use Rattle.sheet.proofs.Fronts.{part_is, put_back}
 use Rattle.sheet.proofs.Sheet.search_covered.Goals as goal
 
 pub returns : goal.returns
@@ -17,10 +17,10 @@ returns g c =
     let a = subst (λ xs. MatchResult r
     (λ x. Answered m.weight m.size (f.span w) (f.rows w) (f.need w) xs work c.search.new.work x.message x.reading)
     (λ e. Refused m.size (f.span w) (f.need w) xs work c.search.new.work e))
-    (part-is t.cells.now _ c.covering-n.ensures) c.search.ensures.answer in
+    (part_is t.cells.now _ c.covering-n.ensures) c.search.ensures.answer in
     record {
       law = record {
-        book = λ h st. (not-moved _ _ _ _ h t _ (record { cells = same; passes = refl }) st, searched _ _ _ _ h t _ _ _ work _ r a st);
+        book = λ h st. (not_moved _ _ _ _ h t _ (record { cells = same; passes = refl }) st, searched _ _ _ _ h t _ _ _ work _ r a st);
         cells = a;
         same = record { cells = same; passes = refl };
       };

@@ -1,13 +1,13 @@
 use Rattle.std.proofs.Common.{refl, arith, drop-set-lt}
 use Rattle.std.proofs.lemmas.List.{length-set}
 use Rattle.code.specs.Limits.{max_places}
-use Rattle.sheet.proofs.Books.{struck, not-struck}
+use Rattle.sheet.proofs.Books.{struck, not_struck}
 use Rattle.sheet.proofs.Sheet.strike_covered.Goals as goal
 
 pub returns-then-place-covering : goal.returns-then-place-covering
 returns-then-place-covering g c = record {
   law = record {
-    book = λ h st. not-struck _ _ _ _ h c.args.self.now c.args.place (omega arith) st;
+    book = λ h st. not_struck _ _ _ _ h c.args.self.now c.args.place (omega arith) st;
     cells = (omega arith, refl, record { cells = refl; passes = refl });
     kept = record { long = refl; beyond = refl };
   };

@@ -1,6 +1,6 @@
 use Rattle.std.proofs.Common.{◌∙◌, inl}
 use Rattle.sample.proofs.Faults.{answer_err, answer_ok}
-use Rattle.sheet.proofs.Checks.{check_length, check_full, check_samples_lem, checked-whole}
+use Rattle.sheet.proofs.Checks.{check_length, check_full, check_samples_lem, checked_whole}
 use Rattle.sheet.proofs.cells.check_pass.Goals as goal
 
 pub returns-then-samples-cells : goal.returns-then-samples-cells
@@ -17,4 +17,4 @@ returns-in-Ok g c =
     let long = c.if-samples-cells.false in
     let few = c.if-passes-ge-MAX_PASSES.false in
     let e = c.in-Ok.ensures in
-    checked-whole _ _ _ _ _ _ _ _ (check_samples_lem _ _ _ long few ∙ answer_ok _ _ _ e.value) long few e.rule c.check_sizes.ensures
+    checked_whole _ _ _ _ _ _ _ _ (check_samples_lem _ _ _ long few ∙ answer_ok _ _ _ e.value) long few e.rule c.check_sizes.ensures

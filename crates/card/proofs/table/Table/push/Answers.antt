@@ -3,8 +3,8 @@ use Rattle.std.proofs.lemmas.Result.{err_from_is_err_and}
 use Rattle.code.specs.declared.refusal.Section.{Section}
 use Rattle.card.specs.Cards.{pushed, Told}
 use Rattle.card.specs.Tables.{card_of, Filling}
-use Rattle.card.proofs.Pushes.{Passed, passed, at-below, pushed_group, pushed_transform, pushed_coset}
-use Rattle.card.proofs.Lawful.{lawful_table, lawful_kept, kept-group, kept-transform, kept-coset}
+use Rattle.card.proofs.Pushes.{Passed, passed, at_below, pushed_group, pushed_transform, pushed_coset}
+use Rattle.card.proofs.Lawful.{lawful_table, lawful_kept, kept_group, kept_transform, kept_coset}
 use Rattle.card.proofs.Told.{told-verdict}
 use Rattle.card.proofs.table.Table.push.Goals as goal
 
@@ -25,7 +25,7 @@ pub bounds-self-at : goal.bounds-self-at
 bounds-self-at c =
     let t = c.args.self.now in
     let n : length t.rows ≡ 24 = search rules in
-    at-below t c.args.section c.args.row n (passed c.in_ok-check.field-0 (card_of t) c.args.section c.args.row c.in_ok-check.ensures)
+    at_below t c.args.section c.args.row n (passed c.in_ok-check.field-0 (card_of t) c.args.section c.args.row c.in_ok-check.ensures)
 
 pub invariant_of-self : goal.invariant_of-self
 invariant_of-self c =
@@ -34,7 +34,7 @@ invariant_of-self c =
     let n : length t.rows ≡ 24 = search rules in
     let p = subst (λ (s : Section). Passed (card_of t) s row) c.in-Group.is (passed c.in_ok-check.field-0 (card_of t) c.args.section row c.in_ok-check.ensures) in
     let (zt, zc) = subst (Filling t.transform t.coset) c.in-Group.is c.requires in
-    let k = kept-group t row n p zt zc in
+    let k = kept_group t row n p zt zc in
     record { few = k.few; within = k.within; independent = k.independent; concur = k.concur }
 
 pub invariant_of-self-in-Transform : goal.invariant_of-self-in-Transform
@@ -43,7 +43,7 @@ invariant_of-self-in-Transform c =
     let row = c.args.row in
     let n : length t.rows ≡ 24 = search rules in
     let p = subst (λ (s : Section). Passed (card_of t) s row) c.in-Transform.is (passed c.in_ok-check.field-0 (card_of t) c.args.section row c.in_ok-check.ensures) in
-    let k = kept-transform t row n p in
+    let k = kept_transform t row n p in
     record { few = k.few; within = k.within; independent = k.independent; concur = k.concur }
 
 pub invariant_of-self-in-Coset : goal.invariant_of-self-in-Coset
@@ -52,7 +52,7 @@ invariant_of-self-in-Coset c =
     let row = c.args.row in
     let n : length t.rows ≡ 24 = search rules in
     let p = subst (λ (s : Section). Passed (card_of t) s row) c.in-Coset.is (passed c.in_ok-check.field-0 (card_of t) c.args.section row c.in_ok-check.ensures) in
-    let k = kept-coset t row n p in
+    let k = kept_coset t row n p in
     record { few = k.few; within = k.within; independent = k.independent; concur = k.concur }
 
 pub returns-in-Group : goal.returns-in-Group
@@ -68,7 +68,7 @@ returns-in-Group c =
       card = pushed_group t.len.places t.group t.transform t.coset row t.rows zt zc (omega arith) ∙ ap (λ (s : Section). pushed (card_of t) s row) (sym c.in-Group.is);
       refused = tt;
       filling = c.requires;
-      lawful = lawful_kept _ _ _ _ _ t.len.lawful (length-set t.rows _ row ∙ n) (kept-group t row n p zt zc);
+      lawful = lawful_kept _ _ _ _ _ t.len.lawful (length-set t.rows _ row ∙ n) (kept_group t row n p zt zc);
     }
 
 pub returns-in-Transform : goal.returns-in-Transform
@@ -84,7 +84,7 @@ returns-in-Transform c =
       card = pushed_transform t.len.places t.group t.transform t.coset row t.rows zc (omega arith) ∙ ap (λ (s : Section). pushed (card_of t) s row) (sym c.in-Transform.is);
       refused = tt;
       filling = subst (Filling (t.transform + 1) t.coset) (sym c.in-Transform.is) zc;
-      lawful = lawful_kept _ _ _ _ _ t.len.lawful (length-set t.rows _ row ∙ n) (kept-transform t row n p);
+      lawful = lawful_kept _ _ _ _ _ t.len.lawful (length-set t.rows _ row ∙ n) (kept_transform t row n p);
     }
 
 pub returns-in-Coset : goal.returns-in-Coset
@@ -94,12 +94,12 @@ returns-in-Coset c =
     let n : length t.rows ≡ 24 = search rules in
     let q = passed c.in_ok-check.field-0 (card_of t) c.args.section row c.in_ok-check.ensures in
     let p = subst (λ (s : Section). Passed (card_of t) s row) c.in-Coset.is q in
-    let lt = at-below t c.args.section row n q in
+    let lt = at_below t c.args.section row n q in
     record {
       answer = c.in_ok-check.ensures;
       told = subst (Told (card_of t) c.args.section row) (sym c.in_ok-check.ensures) (told-verdict (card_of t) c.args.section row (lawful_table t n));
       card = pushed_coset t.len.places t.group t.transform t.coset row t.rows (omega (arith, lt)) ∙ ap (λ (s : Section). pushed (card_of t) s row) (sym c.in-Coset.is);
       refused = tt;
       filling = subst (Filling t.transform (t.coset + 1)) (sym c.in-Coset.is) tt;
-      lawful = lawful_kept _ _ _ _ _ t.len.lawful (length-set t.rows _ row ∙ n) (kept-coset t row n p);
+      lawful = lawful_kept _ _ _ _ _ t.len.lawful (length-set t.rows _ row ∙ n) (kept_coset t row n p);
     }

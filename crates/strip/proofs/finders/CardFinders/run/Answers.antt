@@ -1,7 +1,7 @@
 use Rattle.std.proofs.Common.{◌≡◌, ◌+◌, ◌<◌, length, drop, ◌∙◌, subst, arith}
 use Rattle.std.proofs.lemmas.List.{drop-set-lt, get_or_default}
 use Rattle.sheet.specs.Runs.{Ran, Spared}
-use Rattle.sheet.proofs.Runs.{ran-more, spared_more, kept_then, drop_further}
+use Rattle.sheet.proofs.Runs.{ran_more, spared_more, kept_then, drop_further}
 use Rattle.strip.specs.Finders.{need_by, rows_by, span_by}
 use Rattle.strip.proofs.finders.CardFinders.run.Goals as goal
 
@@ -12,7 +12,7 @@ loop-i-preserved g c =
     let law = c.serve.ensures.law in
     let wi : i < length c.args.requests.now = omega arith in
     let wa : i < length c.loop-i.answers = omega arith in (
-      λ h st. ran-more _ _ _ _ _ _ _ _ _ h i c.args.sheet.now c.loop-i.sheet c.serve.new.sheet c.loop-i.answers _ _ _
+      λ h st. ran_more _ _ _ _ _ _ _ _ _ h i c.args.sheet.now c.loop-i.sheet c.serve.new.sheet c.loop-i.answers _ _ _
           c.loop-i.auto.work wi wa (get_or_default c.args.requests.now i _ _ wi) v.1.long law.book (v.0 h st),
       kept_then v.1 law.kept,
       spared_more (need_by c.args.self.now) c.args.requests.now i c.loop-i.answers _ c.serve.result _ _ _ wi wa (get_or_default c.args.requests.now i _ _ wi) law.spared v.2,
