@@ -1,6 +1,6 @@
 -- A word whose readings are replaced by their opposites at some places.
 use Rattle.std.proofs.Common.{◌≡◌, ℕ, ◌+◌, ◌/◌, ◌<◌, ◌≤◌, Bool, true, false, cond, List, [], ◌∷◌, ◌++◌, map, length, get_or, take, drop, set, ℤ, sym, refl, ap, ◌∙◌, ap₂, arith}
-use Rattle.std.specs.List.{AllByRecursion as All}
+use Rattle.std.specs.List.{AllByRecursion}
 use Rattle.std.proofs.lemmas.List.{append_assoc, drop-drop, drop-set-lt, take_more_set, drop_more, drop_all, take_all, append-nil, get_or-drop}
 use Rattle.code.specs.Limits.{sum_limit}
 use Rattle.code.specs.Words.{odd, negated_if, negated_at}
@@ -12,7 +12,7 @@ module _ {R : Type 0} (weight : R → ℤ) (size : R → ℕ) (op : R → R) (o 
   weight_one x true h = o.negates x h
   weight_one x false h = refl
 
-  pub weights_at : (xs : List R) (c : ℕ) → All (λ x. size x ≤ sum_limit) xs → map weight (opposite_at op xs c) ≡ negated_at (map weight xs) c
+  pub weights_at : (xs : List R) (c : ℕ) → AllByRecursion (λ x. size x ≤ sum_limit) xs → map weight (opposite_at op xs c) ≡ negated_at (map weight xs) c
   weights_at [] c h = refl
   weights_at (x ∷ xs) c h = ap₂ (λ z zs. z ∷ zs) (weight_one x (odd c) h.0) (weights_at xs (c / 2) h.1)
 
@@ -20,11 +20,11 @@ module _ {R : Type 0} (weight : R → ℤ) (size : R → ℕ) (op : R → R) (o 
   size_one x true h = o.sized x h
   size_one x false h = refl
 
-  pub sizes_at : (xs : List R) (c : ℕ) → All (λ x. size x ≤ sum_limit) xs → map size (opposite_at op xs c) ≡ map size xs
+  pub sizes_at : (xs : List R) (c : ℕ) → AllByRecursion (λ x. size x ≤ sum_limit) xs → map size (opposite_at op xs c) ≡ map size xs
   sizes_at [] c h = refl
   sizes_at (x ∷ xs) c h = ap₂ (λ z zs. z ∷ zs) (size_one x (odd c) h.0) (sizes_at xs (c / 2) h.1)
 
-  pub small_at : (xs : List R) (c : ℕ) → All (λ x. size x ≤ sum_limit) xs → All (λ x. size x ≤ sum_limit) (opposite_at op xs c)
+  pub small_at : (xs : List R) (c : ℕ) → AllByRecursion (λ x. size x ≤ sum_limit) xs → AllByRecursion (λ x. size x ≤ sum_limit) (opposite_at op xs c)
   small_at [] c h = tt
   small_at (x ∷ xs) c h = (let e = size_one x (odd c) h.0 in let k = h.0 in omega arith, small_at xs (c / 2) h.1)
 
@@ -32,7 +32,7 @@ module _ {R : Type 0} (weight : R → ℤ) (size : R → ℕ) (op : R → R) (o 
   twice_one x true h = o.twice x h
   twice_one x false h = refl
 
-  pub twice_at : (xs : List R) (c : ℕ) → All (λ x. size x ≤ sum_limit) xs → opposite_at op (opposite_at op xs c) c ≡ xs
+  pub twice_at : (xs : List R) (c : ℕ) → AllByRecursion (λ x. size x ≤ sum_limit) xs → opposite_at op (opposite_at op xs c) c ≡ xs
   twice_at [] c h = refl
   twice_at (x ∷ xs) c h = ap₂ (λ z zs. z ∷ zs) (twice_one x (odd c) h.0) (twice_at xs (c / 2) h.1)
 

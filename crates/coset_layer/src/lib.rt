@@ -3,7 +3,7 @@
 mod own;
 
 ghost use Rattle.std.specs.Prelude.{◌≡◌, ℕ, ◌+◌, ◌-◌, ◌*◌, ◌%◌, ◌^◌, ◌<◌, ◌≤◌, true, List, [], ◌∷◌, ◌++◌, map, length, take, drop, Some, MatchOption, MatchResult, OnOk, nat_lt, slice_index};
-ghost use Rattle.std.specs.List.{AllByRecursion as All};
+ghost use Rattle.std.specs.List.{AllByRecursion};
 ghost use Rattle.card.specs.Cards.{Lawful, rows_of, max_section_rows};
 ghost use Rattle.card.specs.Rows.{Within};
 ghost use Rattle.card.specs.Tables.{card_of};
@@ -53,10 +53,10 @@ fn within(row: u64, n: usize) -> bool
 
 // Replaces each reading by its opposite where the mask has digit 1; the same again puts the word back.
 fn negate_at<R: Reading>(word: &mut [R], mask: u64)
-    requires { All (λ x. R.Reading.size x ≤ sum_limit) word.old }
+    requires { AllByRecursion (λ x. R.Reading.size x ≤ sum_limit) word.old }
     ensures negated { word.new ≡ opposite_at R.Reading.opposite word.old mask }
     ensures back { opposite_at R.Reading.opposite word.new mask ≡ word.old }
-    ensures small { All (λ x. R.Reading.size x ≤ sum_limit) word.new }
+    ensures small { AllByRecursion (λ x. R.Reading.size x ≤ sum_limit) word.new }
     ensures sizes { map R.Reading.size word.new ≡ map R.Reading.size word.old }
     ensures weights { map R.Reading.weight word.new ≡ negated_at (map R.Reading.weight word.old) mask }
 {
@@ -76,7 +76,7 @@ fn search_negated<R: Reading, F: Finder>(
     word: &mut [R],
     work: &mut [R],
 ) -> Result<Found<R>, Refusal>
-    requires { All (λ x. R.Reading.size x ≤ sum_limit) word.old }
+    requires { AllByRecursion (λ x. R.Reading.size x ≤ sum_limit) word.old }
     ensures same { word.new ≡ word.old }
     ensures answer { MatchResult result
         (λ f. Best (F.Finder.rows below.now) (negated_at (map R.Reading.weight word.old) mask) f.message

@@ -1,6 +1,6 @@
 -- When a search is refused, and what one that is not refused may rely on.
 use Rattle.std.proofs.Common.{◌≡◌, ℕ, ◌+◌, ◌<◌, ◌≤◌, cond, eqb, leb, List, [], ◌∷◌, map, length, get_or, drop, Some, None, Option, sym, ap, ◌∙◌, subst, ⊎_elim, arith}
-use Rattle.std.specs.List.{AllByRecursion as All}
+use Rattle.std.specs.List.{AllByRecursion}
 use Rattle.std.proofs.lemmas.List.{drop_more, drop_all}
 use Rattle.std.proofs.lemmas.Bool.{cond-true, cond-false, eq-eqb, ne_eqb, le-leb, lt-leb}
 use Rattle.std.proofs.lemmas.Bool.Decides.{leb_tells, eqb_tells}
@@ -42,7 +42,7 @@ memory_short need have h = cond-false (leb need have) _ _ (lt-leb need have h)
 pub memory-fits : (need have : ℕ) → need ≤ have → memory need have ≡ None
 memory-fits need have h = cond-true (leb need have) _ _ (le-leb need have h)
 
-large_none : (i : ℕ) (ss : List ℕ) (after : Option Refusal) → large_from i ss after ≡ None → All (λ s. s ≤ size_limit) ss × (after ≡ None)
+large_none : (i : ℕ) (ss : List ℕ) (after : Option Refusal) → large_from i ss after ≡ None → AllByRecursion (λ s. s ≤ size_limit) ss × (after ≡ None)
 large_none i [] after e = (tt, e)
 large_none i (s ∷ ss) after e =
     ⊎_elim
@@ -51,7 +51,7 @@ large_none i (s ∷ ss) after e =
     (leb_tells s size_limit)
 
 -- a search that is not refused has a word of the right length, no large size and room enough
-pub taken_facts : (n need : ℕ) (sizes : List ℕ) (have : ℕ) → refusal n need sizes have ≡ None → (length sizes ≡ n) × All (λ s. s ≤ size_limit) sizes × (need ≤ have)
+pub taken_facts : (n need : ℕ) (sizes : List ℕ) (have : ℕ) → refusal n need sizes have ≡ None → (length sizes ≡ n) × AllByRecursion (λ s. s ≤ size_limit) sizes × (need ≤ have)
 taken_facts n need sizes have e =
     ⊎_elim
     (λ t.
@@ -60,17 +60,17 @@ taken_facts n need sizes have e =
     (λ t. absurd (some_none WordLengthDiffers (sym (wrong_length n need sizes have t.1) ∙ e)))
     (eqb_tells (length sizes) n)
 
-pub all_sizes : {R : Type 0} (size : R → ℕ) (xs : List R) → All (λ s. s ≤ size_limit) (map size xs) → All (λ x. size x ≤ size_limit) xs
+pub all_sizes : {R : Type 0} (size : R → ℕ) (xs : List R) → AllByRecursion (λ s. s ≤ size_limit) (map size xs) → AllByRecursion (λ x. size x ≤ size_limit) xs
 all_sizes size [] h = tt
 all_sizes size (x ∷ xs) h = (h.0, all_sizes size xs h.1)
 
-below_sum : {R : Type 0} (size : R → ℕ) (xs : List R) → All (λ x. size x ≤ size_limit) xs → All (λ x. size x ≤ sum_limit) xs
+below_sum : {R : Type 0} (size : R → ℕ) (xs : List R) → AllByRecursion (λ x. size x ≤ size_limit) xs → AllByRecursion (λ x. size x ≤ sum_limit) xs
 below_sum size [] h = tt
 below_sum size (x ∷ xs) h = (let k = h.0 in omega arith, below_sum size xs h.1)
 
 -- the readings of a word that a search took may be negated
-pub taken_sizes : {R : Type 0} (size : R → ℕ) (n need : ℕ) (word same : List R) (have : ℕ) → refusal n need (map size word) have ≡ None → same ≡ word → All (λ x. size x ≤ sum_limit) same
-taken_sizes size n need word same have e is = subst (All (λ x. size x ≤ sum_limit)) (sym is) (below_sum size word (all_sizes size word (taken_facts n need (map size word) have e).1))
+pub taken_sizes : {R : Type 0} (size : R → ℕ) (n need : ℕ) (word same : List R) (have : ℕ) → refusal n need (map size word) have ≡ None → same ≡ word → AllByRecursion (λ x. size x ≤ sum_limit) same
+taken_sizes size n need word same have e is = subst (AllByRecursion (λ x. size x ≤ sum_limit)) (sym is) (below_sum size word (all_sizes size word (taken_facts n need (map size word) have e).1))
 
 -- a word that was taken is not refused
 pub not_both : {X : Type 0} (n need : ℕ) (sizes others : List ℕ) (a b : ℕ) (e : Refusal) → refusal n need sizes a ≡ None → others ≡ sizes → b ≡ a → refusal n need others b ≡ Some e → X

@@ -1,5 +1,5 @@
 ghost use Rattle.std.specs.Prelude.{◌≡◌, ℕ, ◌*◌, ◌<◌, ◌≤◌, map, length, take, pos, sum_by, MatchResult, slice_index};
-ghost use Rattle.std.specs.List.{AllByRecursion as All};
+ghost use Rattle.std.specs.List.{AllByRecursion};
 ghost use Rattle.code.specs.Limits.{max_places, size_limit};
 ghost use Rattle.hadamard.specs.Transform.{weight_at};
 ghost use Rattle.finder.specs.Search.{Refused, refusal};
@@ -75,7 +75,7 @@ fn blank<R: Reading>(list: &mut [R])
 // Adds each reading of the word to the entry of its slot, where there is such an entry.
 fn scatter<R: Reading>(word: &[R], slots: &[usize], list: &mut [R])
     requires fits { (length word.now ≤ length slots.now) × (length word.now ≤ max_places) }
-    requires small { All (λ x. R.Reading.size x ≤ size_limit) word.now }
+    requires small { AllByRecursion (λ x. R.Reading.size x ≤ size_limit) word.now }
     requires blank { (x : ℕ) → x < length list.old → weight_at R.Reading.weight list.old x ≡ pos 0 }
     requires empty { sum_by R.Reading.size list.old ≡ 0 }
     ensures sums { (x : ℕ) → x < length list.new → weight_at R.Reading.weight list.new x ≡ sum_of_slot (λ i. slice_index slots.now i) (weight_at R.Reading.weight word.now) (length word.now) x }

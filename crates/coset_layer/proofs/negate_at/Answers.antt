@@ -1,5 +1,5 @@
 use Rattle.std.proofs.Common.{◌≡◌, ◌<◌, ◌≤◌, true, false, List, map, length, sym, ap, ◌∙◌, subst, arith, rules}
-use Rattle.std.specs.List.{AllByRecursion as All}
+use Rattle.std.specs.List.{AllByRecursion}
 use Rattle.std.proofs.ByRecursion.{All-get_or}
 use Rattle.code.specs.Limits.{sum_limit}
 use Rattle.code.specs.Words.{odd}
@@ -40,7 +40,7 @@ returns g c =
     record {
       negated = is;
       back = ap (λ (l : List _). opposite_at r.opposite l c.args.mask) is ∙ twice_at r.weight r.size r.opposite law word c.args.mask c.requires;
-      small = subst (All (λ x. r.size x ≤ sum_limit)) (sym is) (small_at r.weight r.size r.opposite law word c.args.mask c.requires);
+      small = subst (AllByRecursion (λ x. r.size x ≤ sum_limit)) (sym is) (small_at r.weight r.size r.opposite law word c.args.mask c.requires);
       sizes = ap (map r.size) is ∙ sizes_at r.weight r.size r.opposite law word c.args.mask c.requires;
       weights = ap (map r.weight) is ∙ weights_at r.weight r.size r.opposite law word c.args.mask c.requires;
     }
