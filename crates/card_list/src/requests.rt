@@ -44,7 +44,10 @@ pub fn run_requests(
     ensures count { MatchResult result (λ n. (n ≡ length requests.now) × (n ≤ length answers.old)) (λ e. (e ≡ OutputShort) × (length answers.old < length requests.now)) }
     ensures beyond { drop (length requests.now) answers.new ≡ drop (length requests.now) answers.old }
 {
-    build_card(len, requests, answers)?;
+    if answers.len() < requests.len() {
+        return Err(Refusal::OutputShort);
+    }
+    answer_all(len, requests, answers);
     Ok(requests.len())
 }
 
@@ -59,7 +62,7 @@ pub fn build_card(
     ensures room { MatchResult result (λ _. length requests.now ≤ length answers.old) (λ e. (e ≡ OutputShort) × (length answers.old < length requests.now)) }
     ensures beyond { drop (length requests.now) answers.new ≡ drop (length requests.now) answers.old }
 {
-    if answers.len() < requests.len() {
+    if requests.len() > answers.len() {
         return Err(Refusal::OutputShort);
     }
     let card = answer_all(len, requests, answers);

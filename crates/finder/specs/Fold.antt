@@ -14,10 +14,6 @@ abbrev pub column : List ℕ → ℕ → ℕ
 column [] i = 0
 column (r ∷ rs) i = digit i r + 2 * column rs i
 
--- the slots of the places below n are the columns of the rows
-abbrev pub ColumnsAt : ℕ → List ℕ → List ℕ → Type 0
-ColumnsAt n rows slots = (i : ℕ) → i < n → slice_index slots i ≡ column (take column_rows rows) i
-
 -- the sum of w at the places below n whose slot is x
 abbrev pub sum_of_slot : (ℕ → ℕ) → (ℕ → ℤ) → ℕ → ℕ → ℤ
 sum_of_slot slot w n x = summed n (λ i. cond (slot i == x) (w i) (pos 0))

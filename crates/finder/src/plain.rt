@@ -4,7 +4,7 @@ ghost use Rattle.card.specs.Rows.{Within};
 ghost use Rattle.card.specs.Tables.{card_of};
 ghost use Rattle.hadamard.specs.Transform.{weight_at};
 ghost use Rattle.finder.specs.Search.{Answered, Refused};
-ghost use Rattle.finder.specs.Fold.{ColumnsAt, column_rows};
+ghost use Rattle.finder.specs.Fold.{column_rows};
 ghost use Rattle.std.proofs.Common.{arith};
 ghost use Rattle.std.proofs.lemmas.List.{length-take};
 ghost use Rattle.finder.specs.PlainRows.{plain_lawful};
@@ -18,16 +18,14 @@ use code::refusal::{Refusal, Section};
 use hadamard::transform;
 use reading::Reading;
 
-// The plain finder: the rows of a card's group and transform sections, at most 16, the first `count` of the table, and the column of each place.
+// The plain finder: the rows of a card's group and transform sections, at most 16, the first `count` of the table.
 #[derive(Clone, Copy)]
 pub struct PlainFinder {
     length: WordLength,
     rows: [u64; 16],
     count: usize,
-    slots: [usize; 64],
     ghost few: { count ≤ column_rows },
     ghost within: { Within length.places (take count rows) },
-    ghost columns: { ColumnsAt length.places (take count rows) slots },
 }
 
 // The first entry of the greatest weight.
@@ -68,20 +66,19 @@ fn row_at(rows: &[u64], j: usize) -> Option<u64>
 // Folds the word by the columns of the rows, transforms the list and takes its first largest entry.
 fn search_rows<R: Reading>(
     rows: &[u64],
-    slots: &[usize; 64],
     span: WordLength,
     need: usize,
     word: &[R],
     work: &mut [R],
 ) -> Result<Found<R>, Refusal>
     requires few { length rows.now ≤ column_rows }
-    requires columns { ColumnsAt span.places rows.now slots.now }
     requires room { need ≡ 2 ^ length rows.now }
     ensures { MatchResult result
         (λ f. Answered R.Reading.weight R.Reading.size span.places rows.now need word.now work.old work.new f.message f.reading)
         (λ e. Refused R.Reading.size span.places need word.now work.old work.new e) }
 {
-    match fold(word, span, slots, need, work) {
+    let slots = columns(rows, span);
+    match fold(word, span, &slots, need, work) {
         Ok(()) => {
             let list = &mut work[0..need];
             let _ = transform(list);
@@ -107,14 +104,10 @@ fn first_rows(card: &FinishedCard, count: usize) -> PlainFinder
     ensures length { result.length.places ≡ (card_of card.now.table).len }
     ensures rows { take result.count result.rows ≡ (card_of card.now.table).group ++ (card_of card.now.table).transform }
 {
-    let length = card.word_length();
-    let rows = table_of(card.rows(), count);
-    let slots = columns(&rows[0..count], length);
     PlainFinder {
-        length,
-        rows,
+        length: card.word_length(),
+        rows: table_of(card.rows(), count),
         count,
-        slots,
     }
 }
 
@@ -135,13 +128,6 @@ impl PlainFinder {
         ensures few { length result.now ≤ column_rows }
     {
         &self.rows[0..self.count]
-    }
-
-    // For each place of a word its column of the rows.
-    pub fn columns(&self) -> &[usize; 64]
-        ensures { ColumnsAt self.now.length.places (take self.now.count self.now.rows) result.now }
-    {
-        &self.slots
     }
 }
 
@@ -174,7 +160,6 @@ impl Finder for PlainFinder {
     }
 
     fn search<R: Reading>(&self, word: &mut [R], work: &mut [R]) -> Result<Found<R>, Refusal> {
-        let columns = self.columns();
-        search_rows(self.rows(), columns, self.length, self.need(), word, work)
+        search_rows(self.rows(), self.length, self.need(), word, work)
     }
 }

@@ -6,4 +6,3 @@ pub mod Over
 pub mod Weights
 pub mod Parts
 pub mod Whole
-pub mod Columns

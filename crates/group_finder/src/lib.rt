@@ -7,7 +7,6 @@ ghost use Rattle.std.specs.Prelude.{◌≡◌, ℕ, ◌+◌, ◌-◌, ◌^◌, �
 ghost use Rattle.card.specs.Cards.{Lawful, max_section_rows};
 ghost use Rattle.card.specs.Rows.{Concur};
 ghost use Rattle.card.specs.Tables.{card_of};
-ghost use Rattle.finder.specs.Fold.{ColumnsAt};
 ghost use Rattle.finder.specs.Search.{Answered, Refused};
 ghost use Rattle.group_finder.specs.Choices.{group_need};
 ghost use Rattle.std.proofs.Common.{arith};
@@ -51,7 +50,6 @@ fn need_of(group: usize, others: usize) -> usize
 
 // Folds the word into the lists of the slots, transforms each, and takes the best of all choices.
 fn search_group<R: Reading>(
-    columns: &[usize; 64],
     group: &[u64],
     others: &[u64],
     places: WordLength,
@@ -60,7 +58,6 @@ fn search_group<R: Reading>(
     work: &mut [R],
 ) -> Result<Found<R>, Refusal>
     requires few { (length group.now ≤ max_section_rows) × (length others.now ≤ max_section_rows) }
-    requires columns { ColumnsAt places.places (group.now ++ others.now) columns.now }
     requires concur { Concur group.now }
     requires room { need ≡ group_need (length group.now) (length others.now) }
     ensures { MatchResult result
@@ -68,7 +65,7 @@ fn search_group<R: Reading>(
         (λ e. Refused R.Reading.size places.places need word.now work.old work.new e) }
 {
     let span = choice_count(others.len());
-    let slots = group_slots(columns, group, others, places, span);
+    let slots = group_slots(group, others, places, span);
     match fold(word, places, &slots, need, work) {
         Ok(()) => {
             let lists = &mut work[0..need];
@@ -154,7 +151,6 @@ impl Finder for GroupFinder {
 
     fn search<R: Reading>(&self, word: &mut [R], work: &mut [R]) -> Result<Found<R>, Refusal> {
         search_group(
-            self.plain.columns(),
             self.group_rows(),
             self.other_rows(),
             self.length(),

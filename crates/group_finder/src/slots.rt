@@ -1,10 +1,11 @@
-ghost use Rattle.std.specs.Prelude.{◌≡◌, ℕ, ◌+◌, ◌*◌, ◌/◌, ◌^◌, ◌<◌, ◌≤◌, ◌++◌, length, sum_by, MatchOption, ◌≢◌, slice_index};
+ghost use Rattle.std.specs.Prelude.{◌≡◌, ℕ, ◌+◌, ◌*◌, ◌/◌, ◌^◌, ◌<◌, ◌≤◌, length, sum_by, MatchOption, ◌≢◌, slice_index};
 ghost use Rattle.card.specs.Cards.{max_section_rows};
 ghost use Rattle.code.specs.Limits.{sum_limit};
-ghost use Rattle.finder.specs.Fold.{ColumnsAt, column};
+ghost use Rattle.finder.specs.Fold.{column};
 ghost use Rattle.group_finder.specs.Choices.{Concurs, PartsDone, Slotted};
 
 use code::length::WordLength;
+use finder::fold::columns;
 use hadamard::transform;
 use reading::Reading;
 
@@ -35,25 +36,23 @@ fn slot_of(c: usize, count: usize) -> usize
     }
 }
 
-// For each place of a word the entry that its reading goes to: its slot's list, and there its column of the other rows. The columns are those of all rows.
+// For each place of a word the entry that its reading goes to: its slot's list, and there its column of the other rows.
 pub(crate) fn group_slots(
-    columns: &[usize; 64],
     group: &[u64],
     others: &[u64],
     places: WordLength,
     span: usize,
 ) -> [usize; 64]
     requires few { (length group.now ≤ max_section_rows) × (length others.now ≤ max_section_rows) × (span ≡ 2 ^ length others.now) }
-    requires columns { ColumnsAt places.places (group.now ++ others.now) columns.now }
     requires concurs { (i : ℕ) → Concurs (length group.now) (column group.now i) }
     ensures slots { (i : ℕ) → i < places.places → Slotted (length group.now) (column group.now i) (slice_index result i / span) }
     ensures entries { (i : ℕ) → i < places.places → slice_index result i ≡ slice_index result i / span * span + column others.now i }
 {
-    let count = group.len();
-    let mut slots = [0; 64];
+    let groups = columns(group, places);
+    let mut slots = columns(others, places);
     for i in 0..places.places() {
-        let slot = slot_of(columns[i] % (1usize << count), count);
-        slots[i] = slot * span + (columns[i] >> count);
+        let slot = slot_of(groups[i], group.len());
+        slots[i] = slot * span + slots[i];
     }
     slots
 }

@@ -13,7 +13,7 @@ use Rattle.group_finder.proofs.search_group.Goals as goal
 
 pub group_slots-slots-requires : goal.group_slots-slots-requires
 group_slots-slots-requires g c =
-    record { few = (c.requires.few.0, c.requires.few.1, c.choice_count-span.ensures); columns = c.requires.columns; concurs = concurs_at c.args.group.now c.requires.concur }
+    record { few = (c.requires.few.0, c.requires.few.1, c.choice_count-span.ensures); concurs = concurs_at c.args.group.now c.requires.concur }
 
 pub slice_bounds-lists-end : goal.slice_bounds-lists-end
 slice_bounds-lists-end g c =
