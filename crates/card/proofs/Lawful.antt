@@ -39,13 +39,13 @@ lawful_kept n g t c xs sized l k =
 
 pub lawful_table : (t : Table) → length t.rows ≡ card_rows → Lawful (card_of t)
 lawful_table t l =
-    lawful_kept t.len.places t.group t.transform t.coset t.rows t.len.lawful l
+    lawful_kept t.len t.group t.transform t.coset t.rows t.len.lawful l
     (record { few = t.few; within = t.within; independent = t.independent; concur = t.concur })
 
 -- with one row more
 module _ (t : Table) (row : ℕ) (n : length t.rows ≡ card_rows) where
   pub kept_group : Passed (card_of t) Group row → t.transform ≡ 0 → t.coset ≡ 0
-      → Kept t.len.places (t.group + 1) t.transform t.coset (set t.rows (t.group + t.transform + t.coset) row)
+      → Kept t.len (t.group + 1) t.transform t.coset (set t.rows (t.group + t.transform + t.coset) row)
   kept_group p zt zc = record {
     few = (omega (arith, p.room, count_is t Group n), t.few.1, t.few.2);
     within = more_within t Group row n p _ (omega arith);
@@ -54,7 +54,7 @@ module _ (t : Table) (row : ℕ) (n : length t.rows ≡ card_rows) where
   }
 
   pub kept_transform : Passed (card_of t) Transform row
-      → Kept t.len.places t.group (t.transform + 1) t.coset (set t.rows (t.group + t.transform + t.coset) row)
+      → Kept t.len t.group (t.transform + 1) t.coset (set t.rows (t.group + t.transform + t.coset) row)
   kept_transform p = record {
     few = (t.few.0, omega (arith, p.room, count_is t Transform n), t.few.2);
     within = more_within t Transform row n p _ (omega arith);
@@ -63,7 +63,7 @@ module _ (t : Table) (row : ℕ) (n : length t.rows ≡ card_rows) where
   }
 
   pub kept_coset : Passed (card_of t) Coset row
-      → Kept t.len.places t.group t.transform (t.coset + 1) (set t.rows (t.group + t.transform + t.coset) row)
+      → Kept t.len t.group t.transform (t.coset + 1) (set t.rows (t.group + t.transform + t.coset) row)
   kept_coset p = record {
     few = (t.few.0, t.few.1, omega (arith, p.room, count_is t Coset n));
     within = more_within t Coset row n p _ (omega arith);

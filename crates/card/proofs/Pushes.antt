@@ -64,10 +64,10 @@ module _ (t : Table) (s : Section) (row : ℕ) (n : length t.rows ≡ 24) (p : P
       ap (λ (k : ℕ). take k (set t.rows (t.group + t.transform + t.coset) row)) e
       ∙ take_more_set t.rows (t.group + t.transform + t.coset) row (omega (arith, at_below))
 
-  pub more_within : (m : ℕ) → m ≡ t.group + t.transform + t.coset + 1 → Within t.len.places (take m (set t.rows (t.group + t.transform + t.coset) row))
+  pub more_within : (m : ℕ) → m ≡ t.group + t.transform + t.coset + 1 → Within t.len (take m (set t.rows (t.group + t.transform + t.coset) row))
   more_within m e =
-      subst (Within t.len.places) (sym (one_more m e))
-      (within_push t.len.places (take (t.group + t.transform + t.coset) t.rows) row t.within p.inside)
+      subst (Within t.len) (sym (one_more m e))
+      (within_push t.len (take (t.group + t.transform + t.coset) t.rows) row t.within p.inside)
 
   pub more_independent : (m : ℕ) → m ≡ t.group + t.transform + t.coset + 1 → Independent (take m (set t.rows (t.group + t.transform + t.coset) row))
   more_independent m e =
@@ -86,9 +86,9 @@ more_concur t row n p zt zc =
     let at : t.group + t.transform + t.coset ≡ t.group = omega arith in
     let g = take t.group t.rows in
     let lt : t.group < length t.rows = omega arith in
-    let w : Within t.len.places g = within_take t.len.places t.group (t.group + t.transform + t.coset) t.rows (omega arith) (omega arith) t.within in
+    let w : Within t.len g = within_take t.len t.group (t.group + t.transform + t.coset) t.rows (omega arith) (omega arith) t.within in
     subst Concur (sym (ap (λ (k : ℕ). take (t.group + 1) (set t.rows k row)) at ∙ take_more_set t.rows t.group row lt))
-    (concur_from_concordant t.len.places (g ++ row ∷ []) (within_push t.len.places g row w p.inside) p.concurring)
+    (concur_from_concordant t.len (g ++ row ∷ []) (within_push t.len g row w p.inside) p.concurring)
 
 -- ---- the card after a push
 

@@ -8,7 +8,7 @@ use Rattle.card.specs.Cards.{Card}
 -- the card that a table stands for
 abbrev pub card_of : Table → Card
 card_of t = record {
-  len = t.len.places;
+  len = t.len;
   group = take t.group t.rows;
   transform = take t.transform (drop t.group t.rows);
   coset = take t.coset (drop (t.group + t.transform) t.rows);

@@ -23,7 +23,7 @@ pub struct Table {
     transform: usize,
     coset: usize,
     ghost few: { (group ≤ max_section_rows) × (transform ≤ max_section_rows) × (coset ≤ max_section_rows) },
-    ghost within: { Within len.places (take (group + transform + coset) rows) },
+    ghost within: { Within len (take (group + transform + coset) rows) },
     ghost independent: { Independent (take (group + transform + coset) rows) },
     ghost concur: { Concur (take group rows) },
 }

@@ -40,7 +40,7 @@ pub fn run_requests(
     requests: &[Request],
     answers: &mut [Answer],
 ) -> Result<usize, Refusal>
-    ensures law { MatchResult result (λ _. OwnList len.places requests.now answers.new) (λ _. answers.new ≡ answers.old) }
+    ensures law { MatchResult result (λ _. OwnList len requests.now answers.new) (λ _. answers.new ≡ answers.old) }
     ensures count { MatchResult result (λ n. (n ≡ length requests.now) × (n ≤ length answers.old)) (λ e. (e ≡ OutputShort) × (length answers.old < length requests.now)) }
     ensures beyond { drop (length requests.now) answers.new ≡ drop (length requests.now) answers.old }
 {
@@ -57,8 +57,8 @@ pub fn build_card(
     requests: &[Request],
     answers: &mut [Answer],
 ) -> Result<FinishedCard, Refusal>
-    ensures law { MatchResult result (λ _. OwnList len.places requests.now answers.new) (λ _. answers.new ≡ answers.old) }
-    ensures card { IfOk result (λ k. card_of k.table ≡ card_after len.places requests.now answers.new) }
+    ensures law { MatchResult result (λ _. OwnList len requests.now answers.new) (λ _. answers.new ≡ answers.old) }
+    ensures card { IfOk result (λ k. card_of k.table ≡ card_after len requests.now answers.new) }
     ensures room { MatchResult result (λ _. length requests.now ≤ length answers.old) (λ e. (e ≡ OutputShort) × (length answers.old < length requests.now)) }
     ensures beyond { drop (length requests.now) answers.new ≡ drop (length requests.now) answers.old }
 {
@@ -84,8 +84,8 @@ fn finished(card: AnyCard) -> FinishedCard
 // Hands the requests to a card just started, one after the other.
 fn answer_all(len: WordLength, requests: &[Request], answers: &mut [Answer]) -> AnyCard
     requires { length requests.now ≤ length answers.old }
-    ensures law { OwnList len.places requests.now answers.new }
-    ensures card { card_in result ≡ card_after len.places requests.now answers.new }
+    ensures law { OwnList len requests.now answers.new }
+    ensures card { card_in result ≡ card_after len requests.now answers.new }
     ensures beyond { drop (length requests.now) answers.new ≡ drop (length requests.now) answers.old }
 {
     let mut card = AnyCard::InGroup(GroupCard::new(len));

@@ -3,4 +3,6 @@
 pub mod length;
 pub mod limits;
 pub mod refusal;
+pub mod rows;
+pub mod spaced;
 pub mod words;

@@ -1,6 +1,7 @@
 ghost use Rattle.std.specs.Prelude.{◌≡◌};
 ghost use Rattle.code.specs.Refusals.{number_of, layer_of};
 
+use std::error::Error;
 use std::fmt;
 
 // The three sections of a card, in the order of its rows.
@@ -120,8 +121,14 @@ impl Refusal {
     }
 }
 
+// In words; the alternate form `{:#}` puts the number and the layer before them.
 impl fmt::Display for Refusal {
     fn fmt<W: fmt::Write>(&self, f: &mut fmt::Formatter<W>) -> fmt::Result {
+        if f.alternate() {
+            let number = self.number();
+            let layer = self.layer();
+            write!(f, "refused with {number}, of the {layer}: ")?;
+        }
         match *self {
             Refusal::LengthOutOfRange => write!(f, "the word length is not from 1 to 64"),
             Refusal::DigitBeyondLength { section, index } => write!(
@@ -184,3 +191,5 @@ impl fmt::Display for Refusal {
         }
     }
 }
+
+impl Error for Refusal {}

@@ -11,7 +11,7 @@ use code::refusal::{Refusal, Section};
 impl GroupCard {
     // A card just started, with no rows.
     pub fn new(len: WordLength) -> GroupCard
-        ensures { card_of result.table ≡ blank len.places }
+        ensures { card_of result.table ≡ blank len }
     {
         GroupCard {
             table: Table::new(len),
@@ -100,7 +100,7 @@ impl FinishedCard {
 
     // The length of the card's words.
     pub fn word_length(&self) -> WordLength
-        ensures value { result.places ≡ (card_of self.now.table).len }
+        ensures value { result ≡ (card_of self.now.table).len }
         ensures lawful { Lawful (card_of self.now.table) }
     {
         self.table.word_length()

@@ -10,7 +10,7 @@ use code::words::word_of;
 impl Table {
     // A table with no rows.
     pub(crate) fn new(len: WordLength) -> Table
-        ensures card { card_of result ≡ blank len.places }
+        ensures card { card_of result ≡ blank len }
         ensures open { (result.transform ≡ 0) × (result.coset ≡ 0) }
     {
         Table {

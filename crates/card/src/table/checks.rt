@@ -49,7 +49,7 @@ impl Table {
 
     // Whether a new row keeps the concurrence of the group.
     fn keeps(&self, section: Section, row: u64) -> bool
-        requires { row < 2 ^ self.now.len.places }
+        requires { row < 2 ^ self.now.len }
         ensures { result ≡ keeps (card_of self.now) section row }
     {
         match section {

@@ -9,7 +9,7 @@ use code::refusal::Section;
 impl Table {
     // The length of the card's words.
     pub(crate) fn word_length(&self) -> WordLength
-        ensures value { result.places ≡ (card_of self.now).len }
+        ensures value { result ≡ (card_of self.now).len }
         ensures lawful { Lawful (card_of self.now) }
     {
         self.len

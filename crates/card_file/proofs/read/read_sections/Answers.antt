@@ -12,7 +12,7 @@ returns c =
     let e = c.in_ok-end.end in
     let ok : Card → Result Reading Refusal = λ q. Ok (record { card = q; left = drop e bytes }) in
     ap ok c.finish.ensures
-    ∙ read_card_is bytes c.in_ok-length.length.places (card_of c.new-group.result.table)
+    ∙ read_card_is bytes c.in_ok-length.length (card_of c.new-group.result.table)
     (card_of c.read_section.new.card.table) (card_of c.close_group-transform.result.table)
     (card_of c.read_section-2.new.card.table) (card_of c.close_transform-coset.result.table) (card_of c.read_section-3.new.card.table)
     c.in_ok-after_group.after_group c.in_ok-after_transform.after_transform e (omega arith)

@@ -11,7 +11,7 @@ use Rattle.card_list.proofs.requests.answer_all.Goals as goal
 pub loop-i-init : goal.loop-i-init
 loop-i-init c =
     let len : Card → ℕ = λ k. k.len in
-    let n = c.args.len.places in
+    let n = c.args.len in
     (ap (shown Group) c.new.ensures ∙ sym (ap (λ (m : ℕ). view_after m [] []) (ap len c.new.ensures)), λ j h. absurd (omega arith), refl, c.new.ensures ∙ sym (ap blank (ap len c.new.ensures)))
 
 pub loop-i-preserved : goal.loop-i-preserved
@@ -39,8 +39,8 @@ returns c =
     let bs = c.loop-i.answers in
     record {
       card = card ∙ ap₂ (λ (m i : ℕ). card_after m (take i rs) (take i bs)) (ap len c.new.ensures) all
-          ∙ ap (λ (xs : List Request). card_after c.args.len.places xs (take (length rs) bs)) (take_all (length rs) rs (omega arith))
-          ∙ card_front (Some Group) (blank c.args.len.places) rs bs;
+          ∙ ap (λ (xs : List Request). card_after c.args.len xs (take (length rs) bs)) (take_all (length rs) rs (omega arith))
+          ∙ card_front (Some Group) (blank c.args.len) rs bs;
       law = λ j h. subst (λ (m : ℕ). DueAt m rs c.loop-i.answers j) (ap len c.new.ensures) (before j (omega arith));
       beyond = subst (λ (m : ℕ). drop m c.loop-i.answers ≡ drop m c.args.answers.now) all beyond;
     }

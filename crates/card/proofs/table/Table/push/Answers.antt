@@ -65,7 +65,7 @@ returns-in-Group c =
     record {
       answer = c.in_ok-check.ensures;
       told = subst (Told (card_of t) c.args.section row) (sym c.in_ok-check.ensures) (told-verdict (card_of t) c.args.section row (lawful_table t n));
-      card = pushed_group t.len.places t.group t.transform t.coset row t.rows zt zc (omega arith) ∙ ap (λ (s : Section). pushed (card_of t) s row) (sym c.in-Group.is);
+      card = pushed_group t.len t.group t.transform t.coset row t.rows zt zc (omega arith) ∙ ap (λ (s : Section). pushed (card_of t) s row) (sym c.in-Group.is);
       refused = tt;
       filling = c.requires;
       lawful = lawful_kept _ _ _ _ _ t.len.lawful (length-set t.rows _ row ∙ n) (kept_group t row n p zt zc);
@@ -81,7 +81,7 @@ returns-in-Transform c =
     record {
       answer = c.in_ok-check.ensures;
       told = subst (Told (card_of t) c.args.section row) (sym c.in_ok-check.ensures) (told-verdict (card_of t) c.args.section row (lawful_table t n));
-      card = pushed_transform t.len.places t.group t.transform t.coset row t.rows zc (omega arith) ∙ ap (λ (s : Section). pushed (card_of t) s row) (sym c.in-Transform.is);
+      card = pushed_transform t.len t.group t.transform t.coset row t.rows zc (omega arith) ∙ ap (λ (s : Section). pushed (card_of t) s row) (sym c.in-Transform.is);
       refused = tt;
       filling = subst (Filling (t.transform + 1) t.coset) (sym c.in-Transform.is) zc;
       lawful = lawful_kept _ _ _ _ _ t.len.lawful (length-set t.rows _ row ∙ n) (kept_transform t row n p);
@@ -98,7 +98,7 @@ returns-in-Coset c =
     record {
       answer = c.in_ok-check.ensures;
       told = subst (Told (card_of t) c.args.section row) (sym c.in_ok-check.ensures) (told-verdict (card_of t) c.args.section row (lawful_table t n));
-      card = pushed_coset t.len.places t.group t.transform t.coset row t.rows (omega (arith, lt)) ∙ ap (λ (s : Section). pushed (card_of t) s row) (sym c.in-Coset.is);
+      card = pushed_coset t.len t.group t.transform t.coset row t.rows (omega (arith, lt)) ∙ ap (λ (s : Section). pushed (card_of t) s row) (sym c.in-Coset.is);
       refused = tt;
       filling = subst (Filling t.transform (t.coset + 1)) (sym c.in-Coset.is) tt;
       lawful = lawful_kept _ _ _ _ _ t.len.lawful (length-set t.rows _ row ∙ n) (kept_coset t row n p);
