@@ -3,5 +3,4 @@ pub mod Places
 pub mod Decided
 pub mod Tables
 pub mod Pushes
-pub mod Lawful
 pub mod Told

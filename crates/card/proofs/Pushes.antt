@@ -1,19 +1,20 @@
--- A row that passed the checks keeps what a table keeps.
-use Rattle.std.proofs.Common.{◌≡◌, ℕ, zero, suc, ◌+◌, ◌^◌, ◌<◌, ◌≤◌, Bool, true, false, cond, leb, List, [], ◌∷◌, ◌++◌, length, take, drop, set, Ok, Err, Result, sym, refl, ap, ◌∙◌, subst, arith}
-use Rattle.std.proofs.lemmas.List.{take_more_set, take-set-le, length-take-le, length-drop, drop-set-add}
+-- A row that passed the checks leaves a lawful card.
+use Rattle.std.proofs.Common.{◌≡◌, ℕ, ◌+◌, ◌^◌, ◌<◌, ◌≤◌, Bool, true, false, cond, leb, List, [], ◌∷◌, ◌++◌, length, take, Ok, Err, Result, sym, refl, ap, ◌∙◌, subst, subst₂, append_assoc, arith, length-append}
+use Rattle.std.proofs.Math.Seq.{take-append_seam, drop-append_seam, drop-append-add}
+use Rattle.std.proofs.lemmas.List.{append-nil, length_push}
 use Rattle.std.proofs.lemmas.Bool.{both_ways, leb-false}
 use Rattle.code.specs.declared.refusal.Section.{Section}
 use Rattle.code.specs.declared.refusal.Section.TheVariants.{Group, Transform, Coset}
 use Rattle.code.specs.declared.refusal.Refusal.{Refusal}
 use Rattle.code.specs.declared.refusal.Refusal.TheVariants.{DigitBeyondLength, SectionFull, DependentRow, ConcurrenceBroken}
-use Rattle.card.specs.declared.table.Table.{Table}
-use Rattle.code.specs.Spans.{Independent}
-use Rattle.card.specs.Rows.{dependent, Within, Concur}
-use Rattle.card.specs.Cards.{Card, rows_of, section_of, keeps, verdict, pushed}
-use Rattle.card.specs.Tables.{card_of, counted}
+use Rattle.code.specs.Spans.{Span}
+use Rattle.card.specs.Rows.{dependent, Concur}
+use Rattle.card.specs.Cards.{Card, Lawful, NoneAfter, rows_of, section_of, keeps, verdict, pushed, max_section_rows, card_rows}
 use Rattle.code.proofs.Spans.{independent_push}
 use Rattle.card.proofs.Decided.{dependent_from_span, concur_from_concordant}
-use Rattle.card.proofs.Tables.{rows_joined, within_push, within_take, part_length}
+use Rattle.card.specs.declared.table.Table.TheInside.{Inside}
+use Rattle.card.specs.Tables.{card_of, table_of, rows_joined, table_of-card_of, IsTable}
+use Rattle.card.proofs.Tables.{within_push, within_left}
 
 -- an answer that lets the row in
 accepts : Result (Unit {0}) Refusal → Bool
@@ -22,7 +23,7 @@ accepts (Err _) = false
 
 pub record Passed (k : Card) (s : Section) (row : ℕ) : Type 0 where
   pub inside : row < 2 ^ k.len
-  pub room : length (section_of k s) < 8
+  pub room : length (section_of k s) < max_section_rows
   pub new : dependent (rows_of k) row ≡ false
   pub concurring : keeps k s row ≡ true
 
@@ -42,88 +43,119 @@ passed u k s row h =
     let (a, b, d, e) = four u (leb (2 ^ k.len) row) (leb 8 (length (section_of k s))) (dependent (rows_of k) row) (keeps k s row) (DigitBeyondLength s n) (SectionFull s) (DependentRow s n) (ConcurrenceBroken s n) h in
     record { inside = leb-false (2 ^ k.len) row a; room = leb-false 8 (length (section_of k s)) b; new = d; concurring = e }
 
--- how many rows a section has, by the table's counts
-pub count_is : (t : Table) (s : Section) → length t.rows ≡ 24 → length (section_of (card_of t) s) ≡ counted t s
-count_is t Group n = length-take-le t.group t.rows (omega arith)
-count_is t Transform n = part_length t.rows t.group t.transform (omega arith)
-count_is t Coset n = part_length t.rows (t.group + t.transform) t.coset (omega arith)
+-- a row put after rows that none follow
+last_of_group : (g t c : List ℕ) (row : ℕ) → t ≡ [] → c ≡ [] → (g ++ row ∷ []) ++ (t ++ c) ≡ (g ++ (t ++ c)) ++ row ∷ []
+last_of_group g t c row et ec = rw (et, ec, append-nil (g ++ row ∷ []), append-nil g) refl
 
-pub index_below : (t : Table) (s : Section) → counted t s < 8 → t.group + t.transform + t.coset < 24
-index_below t Group h = omega arith
-index_below t Transform h = omega arith
-index_below t Coset h = omega arith
+last_of_transform : (g t c : List ℕ) (row : ℕ) → c ≡ [] → g ++ ((t ++ row ∷ []) ++ c) ≡ (g ++ (t ++ c)) ++ row ∷ []
+last_of_transform g t c row ec = rw (ec, append-nil (t ++ row ∷ []), append-nil t) (sym (append_assoc g t (row ∷ [])))
 
--- the table's rows with one more
-module _ (t : Table) (s : Section) (row : ℕ) (n : length t.rows ≡ 24) (p : Passed (card_of t) s row) where
-  pub at_below : t.group + t.transform + t.coset < 24
-  at_below = index_below t s (subst (λ (k : ℕ). k < 8) (count_is t s n) p.room)
+-- the new row stands last of all
+pub rows_pushed : (k : Card) (s : Section) (row : ℕ) → NoneAfter k s → rows_of (pushed k s row) ≡ rows_of k ++ row ∷ []
+rows_pushed k Group row e = last_of_group k.group k.transform k.coset row e.0 e.1
+rows_pushed k Transform row e = last_of_transform k.group k.transform k.coset row e
+rows_pushed k Coset row e = simp append_assoc
 
-  one_more : (m : ℕ) → m ≡ t.group + t.transform + t.coset + 1
-      → take m (set t.rows (t.group + t.transform + t.coset) row) ≡ take (t.group + t.transform + t.coset) t.rows ++ row ∷ []
-  one_more m e =
-      ap (λ (k : ℕ). take k (set t.rows (t.group + t.transform + t.coset) row)) e
-      ∙ take_more_set t.rows (t.group + t.transform + t.coset) row (omega (arith, at_below))
+none_after_pushed : (k : Card) (s : Section) (row : ℕ) → NoneAfter k s → NoneAfter (pushed k s row) s
+none_after_pushed k Group row e = e
+none_after_pushed k Transform row e = e
+none_after_pushed k Coset row e = e
 
-  pub more_within : (m : ℕ) → m ≡ t.group + t.transform + t.coset + 1 → Within t.len (take m (set t.rows (t.group + t.transform + t.coset) row))
-  more_within m e =
-      subst (Within t.len) (sym (one_more m e))
-      (within_push t.len (take (t.group + t.transform + t.coset) t.rows) row t.within p.inside)
+few_pushed : (k : Card) (s : Section) (row : ℕ) → ((q : Section) → length (section_of k q) ≤ max_section_rows) → length (section_of k s) < max_section_rows
+    → (q : Section) → length (section_of (pushed k s row) q) ≤ max_section_rows
+few_pushed k Group row f r Group = omega (arith, r, length_push k.group row)
+few_pushed k Group row f r Transform = f Transform
+few_pushed k Group row f r Coset = f Coset
+few_pushed k Transform row f r Group = f Group
+few_pushed k Transform row f r Transform = omega (arith, r, length_push k.transform row)
+few_pushed k Transform row f r Coset = f Coset
+few_pushed k Coset row f r Group = f Group
+few_pushed k Coset row f r Transform = f Transform
+few_pushed k Coset row f r Coset = omega (arith, r, length_push k.coset row)
 
-  pub more_independent : (m : ℕ) → m ≡ t.group + t.transform + t.coset + 1 → Independent (take m (set t.rows (t.group + t.transform + t.coset) row))
-  more_independent m e =
-      let all = take (t.group + t.transform + t.coset) t.rows in
-      let new : dependent all row ≡ false = subst (λ (l : List ℕ). dependent l row ≡ false) (rows_joined t.rows t.group t.transform t.coset) p.new in
-      subst Independent (sym (one_more m e))
-      (independent_push all row t.independent (λ sp. both_ways (dependent all row) new (dependent_from_span all row sp)))
+len_pushed : (k : Card) (s : Section) (row : ℕ) → k.len ≡ (pushed k s row).len
+len_pushed k Group row = refl
+len_pushed k Transform row = refl
+len_pushed k Coset row = refl
 
-  pub same_concur : (g : ℕ) → g ≤ t.group + t.transform + t.coset → Concur (take g t.rows) → Concur (take g (set t.rows (t.group + t.transform + t.coset) row))
-  same_concur g l h = subst Concur (sym (take-set-le g t.rows (t.group + t.transform + t.coset) row l)) h
+concur_pushed : (k : Card) (s : Section) (row : ℕ) → Lawful k → Passed k s row → Concur (pushed k s row).group
+concur_pushed k Group row l p =
+    let w = within_left k.len k.group (k.transform ++ k.coset) l.within in
+    concur_from_concordant k.len (k.group ++ row ∷ []) (within_push k.len k.group row w p.inside) p.concurring
+concur_pushed k Transform row l p = l.concurring
+concur_pushed k Coset row l p = l.concurring
 
--- the group's rows with one more still concur
-pub more_concur : (t : Table) (row : ℕ) → length t.rows ≡ 24 → Passed (card_of t) Group row → t.transform ≡ 0 → t.coset ≡ 0
-    → Concur (take (t.group + 1) (set t.rows (t.group + t.transform + t.coset) row))
-more_concur t row n p zt zc =
-    let at : t.group + t.transform + t.coset ≡ t.group = omega arith in
-    let g = take t.group t.rows in
-    let lt : t.group < length t.rows = omega arith in
-    let w : Within t.len g = within_take t.len t.group (t.group + t.transform + t.coset) t.rows (omega arith) (omega arith) t.within in
-    subst Concur (sym (ap (λ (k : ℕ). take (t.group + 1) (set t.rows k row)) at ∙ take_more_set t.rows t.group row lt))
-    (concur_from_concordant t.len (g ++ row ∷ []) (within_push t.len g row w p.inside) p.concurring)
+pub lawful_pushed : (k : Card) (s : Section) (row : ℕ) → NoneAfter k s → Lawful k → Passed k s row → Lawful (pushed k s row)
+lawful_pushed k s row e l p =
+    let same = rows_pushed k s row e in
+    let out : Span (rows_of k) row → ⊥ = λ sp. both_ways (dependent (rows_of k) row) p.new (dependent_from_span (rows_of k) row sp) in
+    record {
+      sized = rw (← len_pushed k s row) l.sized;
+      few = few_pushed k s row l.few p.room;
+      within = rw (same, ← len_pushed k s row) (within_push k.len (rows_of k) row l.within p.inside);
+      independent = rw same (independent_push (rows_of k) row l.independent out);
+      concurring = concur_pushed k s row l p;
+    }
 
--- ---- the card after a push
+-- ---- the table
 
-pub card_same : (n : ℕ) {g g' t t' c c' : List ℕ} → g ≡ g' → t ≡ t' → c ≡ c'
-    → ◌≡◌ {A = Card} (record { len = n; group = g; transform = t; coset = c }) (record { len = n; group = g'; transform = t'; coset = c' })
-card_same n p q r i = record { len = n; group = p i; transform = q i; coset = r i }
+card_of-table_of : (k : Card) → card_of (table_of k) ≡ k
+card_of-table_of k i = record {
+  len = k.len;
+  group = take-append_seam k.group (k.transform ++ k.coset) i;
+  transform = (ap (take (length k.transform)) (drop-append_seam k.group (k.transform ++ k.coset)) ∙ take-append_seam k.transform k.coset) i;
+  coset = (drop-append-add k.group (k.transform ++ k.coset) (length k.transform) ∙ drop-append_seam k.transform k.coset) i;
+}
 
-none_taken : (n : ℕ) (xs ys : List ℕ) → n ≡ 0 → take n xs ≡ take n ys
-none_taken zero xs ys e = refl
-none_taken (suc n) xs ys e = absurd (omega arith)
+is_table : (k : Card) → Lawful k → IsTable (table_of k)
+is_table k l = record {
+  counts = omega (arith, length-append k.group (k.transform ++ k.coset), length-append k.transform k.coset);
+  lawful = rw (card_of-table_of k) l;
+}
 
-pub pushed_group : (n g t c row : ℕ) (xs : List ℕ) → t ≡ 0 → c ≡ 0 → g < length xs
-    → ◌≡◌ {A = Card} (record { len = n; group = take (g + 1) (set xs (g + t + c) row); transform = take t (drop (g + 1) (set xs (g + t + c) row)); coset = take c (drop (g + 1 + t) (set xs (g + t + c) row)) })
-    (pushed (record { len = n; group = take g xs; transform = take t (drop g xs); coset = take c (drop (g + t) xs) }) Group row)
-pushed_group n g t c row xs zt zc l =
-    let at : g + t + c ≡ g = omega arith in
-    card_same n (ap (λ (k : ℕ). take (g + 1) (set xs k row)) at ∙ take_more_set xs g row l)
-    (none_taken t _ _ zt) (none_taken c _ _ zc)
+-- the table with one row more
+abbrev pub put : Section → Inside → ℕ → Inside
+put Group t row = record { len = t.len; rows = t.rows ++ row ∷ []; group = t.group + 1; transform = t.transform }
+put Transform t row = record { len = t.len; rows = t.rows ++ row ∷ []; group = t.group; transform = t.transform + 1 }
+put Coset t row = record { len = t.len; rows = t.rows ++ row ∷ []; group = t.group; transform = t.transform }
 
-pub pushed_transform : (n g t c row : ℕ) (xs : List ℕ) → c ≡ 0 → g + t < length xs
-    → ◌≡◌ {A = Card} (record { len = n; group = take g (set xs (g + t + c) row); transform = take (t + 1) (drop g (set xs (g + t + c) row)); coset = take c (drop (g + (t + 1)) (set xs (g + t + c) row)) })
-    (pushed (record { len = n; group = take g xs; transform = take t (drop g xs); coset = take c (drop (g + t) xs) }) Transform row)
-pushed_transform n g t c row xs zc l =
-    let at : g + t + c ≡ g + t = omega arith in
-    let lt : t < length (drop g xs) = simp length-drop (omega arith) in
-    card_same n (take-set-le g xs (g + t + c) row (omega arith))
-    (ap (λ (k : ℕ). take (t + 1) (drop g (set xs k row))) at ∙ ap (take (t + 1)) (drop-set-add g xs t row) ∙ take_more_set (drop g xs) t row lt)
-    (none_taken c _ _ zc)
+put-table_of : (k : Card) (s : Section) (row : ℕ) → NoneAfter k s → put s (table_of k) row ≡ table_of (pushed k s row)
+put-table_of k Group row e i = record {
+  len = k.len;
+  rows = sym (rows_pushed k Group row e) i;
+  group = sym (length_push k.group row) i;
+  transform = length k.transform;
+}
+put-table_of k Transform row e i = record {
+  len = k.len;
+  rows = sym (rows_pushed k Transform row e) i;
+  group = length k.group;
+  transform = sym (length_push k.transform row) i;
+}
+put-table_of k Coset row e i = record {
+  len = k.len;
+  rows = sym (rows_pushed k Coset row e) i;
+  group = length k.group;
+  transform = length k.transform;
+}
 
-pub pushed_coset : (n g t c row : ℕ) (xs : List ℕ) → g + t + c < length xs
-    → ◌≡◌ {A = Card} (record { len = n; group = take g (set xs (g + t + c) row); transform = take t (drop g (set xs (g + t + c) row)); coset = take (c + 1) (drop (g + t) (set xs (g + t + c) row)) })
-    (pushed (record { len = n; group = take g xs; transform = take t (drop g xs); coset = take c (drop (g + t) xs) }) Coset row)
-pushed_coset n g t c row xs l =
-    let at : g + t + c ≡ g + (t + c) = omega arith in
-    let lt : c < length (drop (g + t) xs) = simp length-drop (omega arith) in
-    card_same n (take-set-le g xs (g + t + c) row (omega arith))
-    (ap (λ (k : ℕ). take t (drop g (set xs k row))) at ∙ ap (take t) (drop-set-add g xs (t + c) row) ∙ take-set-le t (drop g xs) (t + c) row (omega arith))
-    (ap (take (c + 1)) (drop-set-add (g + t) xs c row) ∙ take_more_set (drop (g + t) xs) c row lt)
+pub is_table_put : (t : Inside) (k : Card) (s q : Section) (row : ℕ) (u : Unit {0}) → IsTable t → card_of t ≡ k → s ≡ q → NoneAfter k s
+    → Ok u ≡ verdict k s row → IsTable (put q t row)
+is_table_put t k s q row u h ek es none ok =
+    let k' = card_of t in
+    let none' : NoneAfter k' q = subst₂ NoneAfter (sym ek) es none in
+    let ok' : Ok u ≡ verdict k' q row = subst₂ (λ (x : Card) (y : Section). Ok u ≡ verdict x y row) (sym ek) es ok in
+    subst IsTable (sym (put-table_of k' q row none') ∙ ap (λ (x : Inside). put q x row) (table_of-card_of t h))
+    (is_table (pushed k' q row) (lawful_pushed k' q row none' h.lawful (passed u k' q row ok')))
+
+room_left : (k : Card) (s : Section) → Lawful k → length (section_of k s) < max_section_rows → length k.group + (length k.transform + length k.coset) < card_rows
+room_left k Group l r = omega (arith, r, l.few Transform, l.few Coset)
+room_left k Transform l r = omega (arith, l.few Group, r, l.few Coset)
+room_left k Coset l r = omega (arith, l.few Group, l.few Transform, r)
+
+pub few_rows : (t : Inside) (k : Card) (s : Section) (row : ℕ) (u : Unit {0}) → IsTable t → card_of t ≡ k → Ok u ≡ verdict k s row → length t.rows < card_rows
+few_rows t k s row u h ek ok =
+    let k' = card_of t in
+    let ok' : Ok u ≡ verdict k' s row = subst (λ (x : Card). Ok u ≡ verdict x s row) (sym ek) ok in
+    let r = room_left k' s h.lawful (passed u k' s row ok').room in
+    omega (arith, r, ap length (rows_joined t.group t.transform t.rows), length-append k'.group (k'.transform ++ k'.coset), length-append k'.transform k'.coset)

@@ -1,23 +1,13 @@
 -- A table's rows, section by section.
-use Rattle.std.proofs.Common.{◌≡◌, ℕ, ◌+◌, ◌/◌, ◌^◌, ◌<◌, ◌≤◌, true, false, not, eqb, leb, List, [], ◌∷◌, ◌++◌, length, take, drop, Ok, Err, sym, ap, ◌∙◌, subst, inl, inr, append_assoc, arith, length-append, take-add}
+use Rattle.std.proofs.Common.{◌≡◌, ℕ, ◌+◌, ◌/◌, ◌^◌, ◌<◌, ◌≤◌, true, false, not, eqb, leb, List, [], ◌∷◌, ◌++◌, length, Ok, Err, sym, ap, ◌∙◌, subst, inl, inr, arith, length-append}
 use native.Mathlib.Nat.{div-eq_of_lt}
 use Rattle.std.proofs.lemmas.Nat.{le-div, pow_pos}
-use Rattle.std.proofs.lemmas.List.{length-drop, length-take-le, get_or_append_left, get_or-append-add, get_or_push, get_or-take, length_push}
+use Rattle.std.proofs.lemmas.List.{get_or_append_left, get_or-append-add, get_or_push, length_push}
 use Rattle.std.proofs.lemmas.Bool.{le-leb, lt-leb, cases_lt, eq-eqb, ne_eqb}
 use Rattle.code.specs.declared.refusal.Section.{Section}
 use Rattle.code.specs.declared.refusal.Refusal.TheVariants.{DependentRow, ConcurrenceBroken}
 use Rattle.card.specs.Rows.{dependent, Within}
 use Rattle.card.specs.Cards.{Card, rows_of, section_of, keeps, verdict}
-
--- the sections one after the other are the rows
-pub rows_joined : (xs : List ℕ) (g t c : ℕ) → take g xs ++ (take t (drop g xs) ++ take c (drop (g + t) xs)) ≡ take (g + t + c) xs
-rows_joined xs g t c =
-    sym (append_assoc (take g xs) (take t (drop g xs)) (take c (drop (g + t) xs)))
-    ∙ ap (λ (l : List ℕ). l ++ take c (drop (g + t) xs)) (sym (take-add g t xs))
-    ∙ sym (take-add (g + t) c xs)
-
-pub part_length : (xs : List ℕ) (n m : ℕ) → n + m ≤ length xs → length (take m (drop n xs)) ≡ m
-part_length xs n m h = length-take-le m (drop n xs) (simp length-drop (omega arith))
 
 -- the verdict, by which checks pass
 module _ (k : Card) (s : Section) (row n : ℕ) (is : n ≡ length (section_of k s)) where
@@ -46,6 +36,13 @@ shifted_beyond n row =
           ap not (ne_eqb (row / 2 ^ n) 0 (λ e. omega arith)) ∙ sym (le-leb (2 ^ n) row l)
     ]
 
+pub shifted_out : (n row : ℕ) → row / 2 ^ n ≡ 0 → row < 2 ^ n
+shifted_out n row z =
+    elim (cases_lt row (2 ^ n)) [
+      | inl l ↦ l
+      | inr l ↦ let q : 1 ≤ row / 2 ^ n = le-div 1 row (2 ^ n) (pow_pos n) (omega arith) in absurd (omega arith)
+    ]
+
 -- no digit beyond, with one row more
 pub within_push : (n : ℕ) (rows : List ℕ) (r : ℕ) → Within n rows → r < 2 ^ n → Within n (rows ++ r ∷ [])
 within_push n rows r w h j l =
@@ -55,12 +52,6 @@ within_push n rows r w h j l =
           let e : length rows ≡ j = omega (arith, length_push rows r) in
           subst (λ (x : ℕ). x < 2 ^ n) (sym (get_or_push rows r 0 j e)) h
     ]
-
-pub within_take : (n m m' : ℕ) (xs : List ℕ) → m ≤ m' → m' ≤ length xs → Within n (take m' xs) → Within n (take m xs)
-within_take n m m' xs le l w j h =
-    let s : length (take m xs) ≡ m = length-take-le m xs (omega arith) in
-    let s' : length (take m' xs) ≡ m' = length-take-le m' xs l in
-    subst (λ (x : ℕ). x < 2 ^ n) (get_or-take m' xs j 0 (omega arith) ∙ sym (get_or-take m xs j 0 (omega arith))) (w j (omega arith))
 
 pub within_left : (n : ℕ) (xs ys : List ℕ) → Within n (xs ++ ys) → Within n xs
 within_left n xs ys w j h = subst (λ (x : ℕ). x < 2 ^ n) (get_or_append_left xs ys 0 j h) (w j (omega (arith, length-append xs ys)))

@@ -1,8 +1,9 @@
 -- The verdict on a row says what a reader would say.
-use Rattle.std.proofs.Common.{◌≡◌, ℕ, ◌^◌, ◌<◌, true, false, List, [], ◌∷◌, ◌++◌, length, sym, refl, inl, inr}
+use Rattle.std.proofs.Common.{◌≡◌, ℕ, ◌^◌, ◌<◌, true, false, List, [], ◌∷◌, ◌++◌, length, Result, sym, refl, inl, inr}
 use Rattle.std.proofs.lemmas.Bool.{le-leb, lt-leb, cases_Bool}
 use Rattle.code.specs.declared.refusal.Section.{Section}
 use Rattle.code.specs.declared.refusal.Section.TheVariants.{Group, Transform, Coset}
+use Rattle.code.specs.declared.refusal.Refusal.{Refusal}
 use Rattle.code.specs.Spans.{Span}
 use Rattle.card.specs.Rows.{Within, dependent, concordant}
 use Rattle.card.specs.Cards.{Card, Lawful, Keeps, Told, keeps, rows_of, section_of, verdict}
@@ -38,3 +39,6 @@ told-verdict k s row l =
       broken = λ h f out bad. sym (verdict_concurrence k s row n refl (inside h) f (not_dependent (rows_of k) row out) (keeps_false k s row l h bad));
       taken = λ h f out good. sym (verdict_ok k s row n refl (inside h) f (not_dependent (rows_of k) row out) (keeps_true k s row good));
     }
+
+pub told_by : (k k' : Card) (s : Section) (row : ℕ) (r : Result (Unit {0}) Refusal) → Lawful k → k ≡ k' → r ≡ verdict k' s row → Told k' s row r
+told_by k k' s row r l e is = rw (is, ← e) (told-verdict k s row l)

@@ -56,6 +56,12 @@ pushed k Group row = record { len = k.len; group = k.group ++ row ∷ []; transf
 pushed k Transform row = record { len = k.len; group = k.group; transform = k.transform ++ row ∷ []; coset = k.coset }
 pushed k Coset row = record { len = k.len; group = k.group; transform = k.transform; coset = k.coset ++ row ∷ [] }
 
+-- no section after this one has rows
+abbrev pub NoneAfter : Card → Section → Type 0
+NoneAfter k Group = (k.transform ≡ []) × (k.coset ≡ [])
+NoneAfter k Transform = k.coset ≡ []
+NoneAfter k Coset = Unit {0}
+
 -- the four checks of a row, in their order
 abbrev pub verdict : Card → Section → ℕ → Result (Unit {0}) Refusal
 verdict k s row =

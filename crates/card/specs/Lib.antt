@@ -3,3 +3,4 @@ pub mod Echelon
 pub mod Places
 pub mod Cards
 pub mod Tables
+pub mod OpenCards

@@ -5,6 +5,7 @@ ghost use Rattle.card.specs.Cards.{card_rows};
 ghost use Rattle.card.specs.Echelon.{Echelon, Reduced};
 
 use crate::table::CARD_ROWS;
+use code::rows::Rows;
 
 // The row with `lead` added where that makes it smaller: without the first digit of `lead`.
 fn without(rest: u64, lead: u64) -> u64
@@ -30,9 +31,10 @@ pub(crate) fn is_dependent(rows: &[u64], row: u64) -> bool
     requires { length rows.now ≤ card_rows }
     ensures { result ≡ dependent rows.now row }
 {
-    let mut basis = [0u64; CARD_ROWS];
-    for (i, other) in rows.iter().enumerate() {
-        basis[i] = reduce(&basis[0..i], *other);
+    let mut basis = Rows::<CARD_ROWS>::new();
+    for other in rows {
+        let lead = reduce(basis.as_slice(), *other);
+        basis.push(lead);
     }
-    reduce(&basis[0..rows.len()], row) == 0
+    reduce(basis.as_slice(), row) == 0
 }

@@ -2,5 +2,6 @@
 
 mod concurrence;
 mod dependence;
+pub mod open;
 pub mod states;
 mod table;

@@ -1,31 +1,74 @@
-ghost use Rattle.std.specs.Prelude.{◌≡◌};
-
 use crate::table::Table;
+use std::marker::Model;
 
 mod calls;
 
 // A card that takes group rows.
-#[derive(Drop)]
+#[derive(PartialEq, Eq, Debug, Drop)]
 pub struct GroupCard {
     table: Table,
-    ghost only: { (table.transform ≡ 0) × (table.coset ≡ 0) },
+}
+
+impl Model for GroupCard {
+    ghost use Rattle.code.specs.declared.refusal.Section.TheVariants.{Group};
+    ghost use Rattle.card.specs.Cards.{Card, NoneAfter};
+
+    ghost Value = { Card };
+
+    ghost view = { λ c. c.table };
+
+    ghost invariant = { λ c. NoneAfter c.table Group };
+
+    ghost inverse = { λ k. record { table = k } };
 }
 
 // A card whose group is closed and that takes transform rows.
-#[derive(Drop)]
+#[derive(PartialEq, Eq, Debug, Drop)]
 pub struct TransformCard {
     table: Table,
-    ghost only: { table.coset ≡ 0 },
+}
+
+impl Model for TransformCard {
+    ghost use Rattle.code.specs.declared.refusal.Section.TheVariants.{Transform};
+    ghost use Rattle.card.specs.Cards.{Card, NoneAfter};
+
+    ghost Value = { Card };
+
+    ghost view = { λ c. c.table };
+
+    ghost invariant = { λ c. NoneAfter c.table Transform };
+
+    ghost inverse = { λ k. record { table = k } };
 }
 
 // A card whose group and transform sections are closed and that takes coset rows.
-#[derive(Drop)]
+#[derive(PartialEq, Eq, Debug, Drop)]
 pub struct CosetCard {
     table: Table,
 }
 
+impl Model for CosetCard {
+    ghost use Rattle.card.specs.Cards.{Card};
+
+    ghost Value = { Card };
+
+    ghost view = { λ c. c.table };
+
+    ghost inverse = { λ k. record { table = k } };
+}
+
 // A card that takes no more rows.
-#[derive(Drop)]
+#[derive(PartialEq, Eq, Debug, Drop)]
 pub struct FinishedCard {
     table: Table,
+}
+
+impl Model for FinishedCard {
+    ghost use Rattle.card.specs.Cards.{Card};
+
+    ghost Value = { Card };
+
+    ghost view = { λ c. c.table };
+
+    ghost inverse = { λ k. record { table = k } };
 }

@@ -1,9 +1,6 @@
-ghost use Rattle.std.specs.Prelude.{◌+◌, ◌≤◌, take};
-ghost use Rattle.code.specs.Spans.{Independent};
-ghost use Rattle.card.specs.Rows.{Within, Concur};
-ghost use Rattle.card.specs.Cards.{max_section_rows};
-
 use code::length::WordLength;
+use code::rows::Rows;
+use std::marker::Model;
 
 mod build;
 mod checks;
@@ -14,16 +11,27 @@ pub(crate) const SECTION_ROWS: usize = 8;
 
 pub(crate) const CARD_ROWS: usize = 24;
 
-// The word length and the rows of a card: group rows first, then transform rows, then coset rows.
-#[derive(Drop)]
+// The word length and the rows of a card: group rows first, then transform rows, and the others are coset rows.
+#[derive(PartialEq, Eq, Debug, Drop)]
 pub struct Table {
     len: WordLength,
-    rows: [u64; CARD_ROWS],
+    rows: Rows<CARD_ROWS>,
     group: usize,
     transform: usize,
-    coset: usize,
-    ghost few: { (group ≤ max_section_rows) × (transform ≤ max_section_rows) × (coset ≤ max_section_rows) },
-    ghost within: { Within len (take (group + transform + coset) rows) },
-    ghost independent: { Independent (take (group + transform + coset) rows) },
-    ghost concur: { Concur (take group rows) },
+}
+
+impl Model for Table {
+    ghost use Rattle.card.specs.Cards.{Card};
+
+    ghost Value = { Card };
+
+    ghost use Rattle.card.specs.Tables.{card_of, table_of, table_of-card_of, IsTable};
+
+    ghost view = { card_of };
+
+    ghost invariant = { IsTable };
+
+    ghost inverse = { table_of };
+
+    ghost inverse_ok = { table_of-card_of };
 }

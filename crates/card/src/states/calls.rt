@@ -1,7 +1,6 @@
-ghost use Rattle.std.specs.Prelude.{◌≡◌, ◌≤◌, length, IfOk, OnErr};
+ghost use Rattle.std.specs.Prelude.{◌≡◌, ◌≤◌, ◌∷◌, [], ◌++◌, length, IfOk, OnErr, OnOk};
 ghost use Rattle.code.specs.declared.refusal.Section.TheVariants.{Group, Transform, Coset};
 ghost use Rattle.card.specs.Cards.{added, blank, card_rows, encoded, Lawful, Only, rows_of, section_of, max_section_rows, Told, verdict};
-ghost use Rattle.card.specs.Tables.{card_of};
 
 use super::{CosetCard, FinishedCard, GroupCard, TransformCard};
 use crate::table::Table;
@@ -11,7 +10,7 @@ use code::refusal::{Refusal, Section};
 impl GroupCard {
     // A card just started, with no rows.
     pub fn new(len: WordLength) -> GroupCard
-        ensures { card_of result.table ≡ blank len }
+        ensures { result ≡ blank len }
     {
         GroupCard {
             table: Table::new(len),
@@ -20,18 +19,19 @@ impl GroupCard {
 
     // Adds a group row, or turns it down and leaves the card as it was.
     pub fn add_row(&mut self, row: u64) -> Result<(), Refusal>
-        ensures answer { result ≡ verdict (card_of self.old.table) Group row }
-        ensures told { Told (card_of self.old.table) Group row result }
-        ensures card { card_of self.new.table ≡ added result (card_of self.old.table) Group row }
-        ensures refused { OnErr result (self.new.table ≡ self.old.table) }
-        ensures lawful { Lawful (card_of self.new.table) }
+        ensures answer { result ≡ verdict self.old Group row }
+        ensures told { Told self.old Group row result }
+        ensures card { self.new ≡ added result self.old Group row }
+        ensures refused { OnErr result (self.new ≡ self.old) }
+        ensures last { OnOk result (rows_of self.new ≡ rows_of self.old ++ row ∷ []) }
+        ensures lawful { Lawful self.new }
     {
         self.table.push(Section::Group, row)
     }
 
     // The same card, taking transform rows.
     pub fn close_group(self) -> TransformCard
-        ensures { card_of result.table ≡ card_of self.table }
+        ensures { result ≡ self }
     {
         TransformCard { table: self.table }
     }
@@ -40,18 +40,19 @@ impl GroupCard {
 impl TransformCard {
     // Adds a transform row, or turns it down and leaves the card as it was.
     pub fn add_row(&mut self, row: u64) -> Result<(), Refusal>
-        ensures answer { result ≡ verdict (card_of self.old.table) Transform row }
-        ensures told { Told (card_of self.old.table) Transform row result }
-        ensures card { card_of self.new.table ≡ added result (card_of self.old.table) Transform row }
-        ensures refused { OnErr result (self.new.table ≡ self.old.table) }
-        ensures lawful { Lawful (card_of self.new.table) }
+        ensures answer { result ≡ verdict self.old Transform row }
+        ensures told { Told self.old Transform row result }
+        ensures card { self.new ≡ added result self.old Transform row }
+        ensures refused { OnErr result (self.new ≡ self.old) }
+        ensures last { OnOk result (rows_of self.new ≡ rows_of self.old ++ row ∷ []) }
+        ensures lawful { Lawful self.new }
     {
         self.table.push(Section::Transform, row)
     }
 
     // The same card, taking coset rows.
     pub fn close_transform(self) -> CosetCard
-        ensures { card_of result.table ≡ card_of self.table }
+        ensures { result ≡ self }
     {
         CosetCard { table: self.table }
     }
@@ -60,18 +61,19 @@ impl TransformCard {
 impl CosetCard {
     // Adds a coset row, or turns it down and leaves the card as it was.
     pub fn add_row(&mut self, row: u64) -> Result<(), Refusal>
-        ensures answer { result ≡ verdict (card_of self.old.table) Coset row }
-        ensures told { Told (card_of self.old.table) Coset row result }
-        ensures card { card_of self.new.table ≡ added result (card_of self.old.table) Coset row }
-        ensures refused { OnErr result (self.new.table ≡ self.old.table) }
-        ensures lawful { Lawful (card_of self.new.table) }
+        ensures answer { result ≡ verdict self.old Coset row }
+        ensures told { Told self.old Coset row result }
+        ensures card { self.new ≡ added result self.old Coset row }
+        ensures refused { OnErr result (self.new ≡ self.old) }
+        ensures last { OnOk result (rows_of self.new ≡ rows_of self.old ++ row ∷ []) }
+        ensures lawful { Lawful self.new }
     {
         self.table.push(Section::Coset, row)
     }
 
     // The same card, taking no more rows.
     pub fn finish(self) -> FinishedCard
-        ensures { card_of result.table ≡ card_of self.table }
+        ensures { result ≡ self }
     {
         FinishedCard { table: self.table }
     }
@@ -80,46 +82,46 @@ impl CosetCard {
 impl FinishedCard {
     // Length 1 and no rows.
     pub fn new() -> FinishedCard
-        ensures { card_of result.table ≡ blank 1 }
+        ensures { result ≡ blank 1 }
     {
-        match WordLength::new(1) {
-            Ok(shortest) => FinishedCard {
-                table: Table::new(shortest),
-            },
-            Err(_) => unreachable(),
+        let Ok(shortest) = WordLength::new(1) else {
+            unreachable()
+        };
+        FinishedCard {
+            table: Table::new(shortest),
         }
     }
 
     // The code word of a message below 2^k, where k is the number of rows. No other message has the same word.
     pub fn encode(&self, message: u64) -> Result<u64, Refusal>
-        ensures answer { result ≡ encoded (card_of self.now.table) message }
-        ensures distinct { IfOk result (λ w. Only (card_of self.now.table) message w) }
+        ensures answer { result ≡ encoded self.now message }
+        ensures distinct { IfOk result (λ w. Only self.now message w) }
     {
         self.table.encode(message)
     }
 
     // The length of the card's words.
     pub fn word_length(&self) -> WordLength
-        ensures value { result ≡ (card_of self.now.table).len }
-        ensures lawful { Lawful (card_of self.now.table) }
+        ensures value { result ≡ self.now.len }
+        ensures lawful { Lawful self.now }
     {
         self.table.word_length()
     }
 
     // The rows of a section.
     pub fn section_rows(&self, section: Section) -> &[u64]
-        ensures value { result.now ≡ section_of (card_of self.now.table) section }
+        ensures value { result.now ≡ section_of self.now section }
         ensures few { length result.now ≤ max_section_rows }
-        ensures lawful { Lawful (card_of self.now.table) }
+        ensures lawful { Lawful self.now }
     {
         self.table.section_rows(section)
     }
 
     // All rows, in the order group, transform, coset.
     pub fn rows(&self) -> &[u64]
-        ensures value { result.now ≡ rows_of (card_of self.now.table) }
+        ensures value { result.now ≡ rows_of self.now }
         ensures few { length result.now ≤ card_rows }
-        ensures lawful { Lawful (card_of self.now.table) }
+        ensures lawful { Lawful self.now }
     {
         self.table.all_rows()
     }

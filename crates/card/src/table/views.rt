@@ -1,6 +1,5 @@
 ghost use Rattle.std.specs.Prelude.{◌≡◌, ◌≤◌, length};
 ghost use Rattle.card.specs.Cards.{Lawful, rows_of, section_of, max_section_rows, card_rows};
-ghost use Rattle.card.specs.Tables.{card_of};
 
 use super::Table;
 use code::length::WordLength;
@@ -9,32 +8,33 @@ use code::refusal::Section;
 impl Table {
     // The length of the card's words.
     pub(crate) fn word_length(&self) -> WordLength
-        ensures value { result ≡ (card_of self.now).len }
-        ensures lawful { Lawful (card_of self.now) }
+        ensures value { result ≡ self.now.len }
+        ensures lawful { Lawful self.now }
     {
         self.len
     }
 
     // The rows of a section.
     pub(crate) fn section_rows(&self, section: Section) -> &[u64]
-        ensures value { result.now ≡ section_of (card_of self.now) section }
+        ensures value { result.now ≡ section_of self.now section }
         ensures few { length result.now ≤ max_section_rows }
-        ensures lawful { Lawful (card_of self.now) }
+        ensures lawful { Lawful self.now }
     {
+        let rows = self.rows.as_slice();
         let first_coset = self.group + self.transform;
         match section {
-            Section::Group => &self.rows[0..self.group],
-            Section::Transform => &self.rows[self.group..first_coset],
-            Section::Coset => &self.rows[first_coset..first_coset + self.coset],
+            Section::Group => &rows[..self.group],
+            Section::Transform => &rows[self.group..first_coset],
+            Section::Coset => &rows[first_coset..],
         }
     }
 
     // All rows.
     pub(crate) fn all_rows(&self) -> &[u64]
-        ensures value { result.now ≡ rows_of (card_of self.now) }
+        ensures value { result.now ≡ rows_of self.now }
         ensures few { length result.now ≤ card_rows }
-        ensures lawful { Lawful (card_of self.now) }
+        ensures lawful { Lawful self.now }
     {
-        &self.rows[0..self.group + self.transform + self.coset]
+        self.rows.as_slice()
     }
 }
