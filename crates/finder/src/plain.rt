@@ -74,7 +74,7 @@ fn search_rows<R: Reading>(
     requires few { length rows.now ≤ column_rows }
     requires room { need ≡ 2 ^ length rows.now }
     ensures { MatchResult result
-        (λ f. Answered R.Reading.weight R.Reading.size span.places rows.now need word.now work.old work.new f.message f.reading)
+        (Answered R.Reading (record { span = span.places; rows = rows.now; need = need }) word.now work.old work.new)
         (λ e. Refused R.Reading.size span.places need word.now work.old work.new e) }
 {
     let slots = columns(rows, span);
@@ -132,11 +132,7 @@ impl PlainFinder {
 }
 
 impl Finder for PlainFinder {
-    ghost span = { λ s. s.length.places };
-
-    ghost rows = { λ s. take s.count s.rows };
-
-    ghost need = { λ s. 2 ^ length (take s.count s.rows) };
+    ghost meaning = { λ s. record { span = s.length.places; rows = take s.count s.rows; need = 2 ^ length (take s.count s.rows) } };
 
     ghost lawful = { λ s.
         let l = length-take s.count s.rows in
