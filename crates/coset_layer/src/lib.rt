@@ -10,8 +10,8 @@ ghost use Rattle.card.specs.Tables.{card_of};
 ghost use Rattle.code.specs.Limits.{max_places, max_rows, sum_limit};
 ghost use Rattle.code.specs.Words.{Best, agrees, codeword, negated_at};
 ghost use Rattle.finder.specs.Search.{Answered, Refused, refusal};
-ghost use Rattle.coset_layer.specs.Layers.{held, layer_rows_of, layer_span};
-ghost use Rattle.coset_layer.specs.Pile.{cut_to, layer_rows, opposite_at, pile_rows, row_verdict};
+ghost use Rattle.coset_layer.specs.Layers.{held, layer_meaning};
+ghost use Rattle.coset_layer.specs.Pile.{above, cut_to, layer_rows, opposite_at, pile_rows, row_verdict};
 ghost use Rattle.coset_layer.specs.Piles.{pile_lawful};
 
 use crate::own::{LAYER_ROWS, OwnRows};
@@ -79,10 +79,10 @@ fn search_negated<R: Reading, F: Finder>(
     requires { AllByRecursion (λ x. R.Reading.size x ≤ sum_limit) word.old }
     ensures same { word.new ≡ word.old }
     ensures answer { MatchResult result
-        (λ f. Best (F.Finder.rows below.now) (negated_at (map R.Reading.weight word.old) mask) f.message
-        × (R.Reading.weight f.reading ≡ agrees (F.Finder.rows below.now) (negated_at (map R.Reading.weight word.old) mask) f.message)
-        × (drop (F.Finder.need below.now) work.new ≡ drop (F.Finder.need below.now) work.old))
-        (λ e. refusal (F.Finder.span below.now) (F.Finder.need below.now) (map R.Reading.size word.old) (length work.old) ≡ Some e) }
+        (λ f. Best (F.Finder.meaning below.now).rows (negated_at (map R.Reading.weight word.old) mask) f.message
+        × (R.Reading.weight f.reading ≡ agrees (F.Finder.meaning below.now).rows (negated_at (map R.Reading.weight word.old) mask) f.message)
+        × (drop (F.Finder.meaning below.now).need work.new ≡ drop (F.Finder.meaning below.now).need work.old))
+        (λ e. refusal (F.Finder.meaning below.now).span (F.Finder.meaning below.now).need (map R.Reading.size word.old) (length work.old) ≡ Some e) }
 {
     negate_at(word, mask);
     let found = below.search(word, work);
@@ -99,14 +99,14 @@ fn search_choices<R: Reading, F: Finder>(
     word: &mut [R],
     work: &mut [R],
 ) -> Result<Found<R>, Refusal>
-    requires span { n ≡ F.Finder.span below.now }
-    requires count { k ≡ length (F.Finder.rows below.now) }
+    requires span { n ≡ (F.Finder.meaning below.now).span }
+    requires count { k ≡ length (F.Finder.meaning below.now).rows }
     requires few { length own.now ≤ layer_rows }
     requires room { length own.now + k ≤ max_rows }
     ensures same { word.new ≡ word.old }
     ensures answer { MatchResult result
-        (λ f. Answered R.Reading.weight R.Reading.size (F.Finder.span below.now) (F.Finder.rows below.now ++ cut_to n own.now) (F.Finder.need below.now) word.old work.old work.new f.message f.reading)
-        (λ e. Refused R.Reading.size (F.Finder.span below.now) (F.Finder.need below.now) word.old work.old work.new e) }
+        (Answered R.Reading (above (F.Finder.meaning below.now) (cut_to n own.now)) word.old work.old work.new)
+        (Refused R.Reading.size (F.Finder.meaning below.now).span (F.Finder.meaning below.now).need word.old work.old work.new) }
 {
     let mut best = match below.search(word, work) {
         Ok(found) => found,
@@ -156,8 +156,8 @@ fn two_layers<F: Finder>(below: F, coset: &[u64]) -> CosetLayer<CosetLayer<F>>
     ensures below { result.below.below ≡ below }
     ensures lower { held result.below.own ≡ take layer_rows coset.now }
     ensures upper { held result.own ≡ take layer_rows (drop layer_rows coset.now) }
-    ensures rows { length coset.now ≤ max_section_rows → length (F.Finder.rows below) + length coset.now ≤ max_rows → Within (F.Finder.span below) coset.now
-        → layer_rows_of (layer_span F.Finder.span) (layer_rows_of F.Finder.span F.Finder.rows) result ≡ F.Finder.rows below ++ coset.now }
+    ensures rows { length coset.now ≤ max_section_rows → length (F.Finder.meaning below).rows + length coset.now ≤ max_rows → Within (F.Finder.meaning below).span coset.now
+        → (layer_meaning (layer_meaning F.Finder.meaning) result).rows ≡ (F.Finder.meaning below).rows ++ coset.now }
 {
     let lower = coset.len().min(LAYER_ROWS);
     let first = CosetLayer {
@@ -177,8 +177,8 @@ fn on_card<F: Finder>(below: F, card: &FinishedCard, coset: &[u64]) -> CosetLaye
     ensures below { result.below.below ≡ below }
     ensures lower { held result.below.own ≡ take layer_rows (card_of card.now.table).coset }
     ensures upper { held result.own ≡ take layer_rows (drop layer_rows (card_of card.now.table).coset) }
-    ensures rows { F.Finder.span below ≡ (card_of card.now.table).len → F.Finder.rows below ≡ (card_of card.now.table).group ++ (card_of card.now.table).transform
-        → layer_rows_of (layer_span F.Finder.span) (layer_rows_of F.Finder.span F.Finder.rows) result ≡ rows_of (card_of card.now.table) }
+    ensures rows { (F.Finder.meaning below).span ≡ (card_of card.now.table).len → (F.Finder.meaning below).rows ≡ (card_of card.now.table).group ++ (card_of card.now.table).transform
+        → (layer_meaning (layer_meaning F.Finder.meaning) result).rows ≡ rows_of (card_of card.now.table) }
 {
     two_layers(below, coset)
 }
@@ -189,8 +189,8 @@ pub fn card_layers<F: Finder>(below: F, card: &FinishedCard) -> CosetLayer<Coset
     ensures below { result.below.below ≡ below }
     ensures lower { held result.below.own ≡ take layer_rows (card_of card.now.table).coset }
     ensures upper { held result.own ≡ take layer_rows (drop layer_rows (card_of card.now.table).coset) }
-    ensures rows { F.Finder.span below ≡ (card_of card.now.table).len → F.Finder.rows below ≡ (card_of card.now.table).group ++ (card_of card.now.table).transform
-        → layer_rows_of (layer_span F.Finder.span) (layer_rows_of F.Finder.span F.Finder.rows) result ≡ rows_of (card_of card.now.table) }
+    ensures rows { (F.Finder.meaning below).span ≡ (card_of card.now.table).len → (F.Finder.meaning below).rows ≡ (card_of card.now.table).group ++ (card_of card.now.table).transform
+        → (layer_meaning (layer_meaning F.Finder.meaning) result).rows ≡ rows_of (card_of card.now.table) }
 {
     on_card(below, card, card.section_rows(Section::Coset))
 }
@@ -198,16 +198,16 @@ pub fn card_layers<F: Finder>(below: F, card: &FinishedCard) -> CosetLayer<Coset
 impl<F: Finder> CosetLayer<F> {
     // The rows of its own that the layer reads: as many as keep the pile at 24.
     fn own_rows(&self) -> &[u64]
-        ensures value { result.now ≡ take (max_rows - length (F.Finder.rows self.now.below)) (held self.now.own) }
+        ensures value { result.now ≡ take (max_rows - length (F.Finder.meaning self.now.below).rows) (held self.now.own) }
         ensures few { length result.now ≤ layer_rows }
-        ensures room { length result.now + length (F.Finder.rows self.now.below) ≤ max_rows }
+        ensures room { length result.now + length (F.Finder.meaning self.now.below).rows ≤ max_rows }
     {
         self.own.first(MAX_ROWS - self.below.row_count())
     }
 
     // The number of rows of the pile.
     fn pile_count(&self) -> usize
-        ensures { result ≡ length (layer_rows_of F.Finder.span F.Finder.rows self.now) }
+        ensures { result ≡ length ((layer_meaning F.Finder.meaning self.now).rows) }
     {
         self.below.row_count() + self.own_rows().len()
     }
@@ -215,8 +215,8 @@ impl<F: Finder> CosetLayer<F> {
     // Row j of the pile.
     fn pile_row(&self, j: usize) -> Option<u64>
         ensures { MatchOption result
-            (length (layer_rows_of F.Finder.span F.Finder.rows self.now) ≤ j)
-            (λ w. (j < length (layer_rows_of F.Finder.span F.Finder.rows self.now)) × (w ≡ slice_index (layer_rows_of F.Finder.span F.Finder.rows self.now) j)) }
+            (length ((layer_meaning F.Finder.meaning self.now).rows) ≤ j)
+            (λ w. (j < length ((layer_meaning F.Finder.meaning self.now).rows)) × (w ≡ slice_index ((layer_meaning F.Finder.meaning self.now).rows) j)) }
     {
         let k = self.below.row_count();
         if j < k {
@@ -244,13 +244,13 @@ impl<F: Finder> CosetLayer<F> {
 
     // Adds a row of its own, or turns it down and leaves the layer as it was. The row may depend on others.
     pub fn add_row(&mut self, row: u64) -> Result<(), Refusal>
-        ensures value { result ≡ row_verdict (F.Finder.span self.old.below) (length (F.Finder.rows self.old.below)) (length (held self.old.own)) row }
+        ensures value { result ≡ row_verdict (F.Finder.meaning self.old.below).span (length (F.Finder.meaning self.old.below).rows) (length (held self.old.own)) row }
         ensures below { self.new.below ≡ self.old.below }
         ensures own { MatchResult result
             (λ _. held self.new.own ≡ held self.old.own ++ row ∷ [])
             (λ _. self.new ≡ self.old) }
         ensures rows { MatchResult result
-            (λ _. layer_rows_of F.Finder.span F.Finder.rows self.new ≡ layer_rows_of F.Finder.span F.Finder.rows self.old ++ row ∷ [])
+            (λ _. (layer_meaning F.Finder.meaning self.new).rows ≡ (layer_meaning F.Finder.meaning self.old).rows ++ row ∷ [])
             (λ _. Unit {0}) }
     {
         let n = self.below.length().places();
@@ -266,13 +266,9 @@ impl<F: Finder> CosetLayer<F> {
 }
 
 impl<F: Finder> Finder for CosetLayer<F> {
-    ghost span = { layer_span F.Finder.span };
+    ghost meaning = { layer_meaning F.Finder.meaning };
 
-    ghost rows = { layer_rows_of F.Finder.span F.Finder.rows };
-
-    ghost need = { λ s. F.Finder.need s.below };
-
-    ghost lawful = { λ s. pile_lawful _ _ _ (take s.own.count s.own.rows) (F.Finder.lawful s.below) };
+    ghost lawful = { λ s. pile_lawful (F.Finder.meaning s.below) (take s.own.count s.own.rows) (F.Finder.lawful s.below) };
 
     fn length(&self) -> WordLength {
         self.below.length()

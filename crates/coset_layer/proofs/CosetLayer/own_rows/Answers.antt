@@ -6,7 +6,7 @@ use Rattle.coset_layer.proofs.CosetLayer.own_rows.Goals as goal
 pub returns : goal.returns
 returns g c =
     let s = c.args.self.now in
-    let rows = g.F.Finder.rows s.below in
+    let rows = (g.F.Finder.meaning s.below).rows in
     let held = take s.own.count s.own.rows in
     let law = (g.met.F.Finder.lawful s.below).few in
     let few = s.own.few in
