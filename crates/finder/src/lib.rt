@@ -4,6 +4,7 @@ pub mod both;
 pub mod either;
 pub mod fold;
 pub mod found;
+pub mod of_card;
 pub mod plain;
 
 ghost use Rattle.std.specs.Prelude.{◌≡◌, ℕ, ◌<◌, ◌≤◌, List, length, MatchOption, MatchResult, slice_index};

@@ -8,7 +8,7 @@ ghost use Rattle.card.specs.Cards.{Lawful, max_section_rows};
 ghost use Rattle.card.specs.Rows.{Concur};
 ghost use Rattle.card.specs.Tables.{card_of};
 ghost use Rattle.finder.specs.Search.{Answered, Refused};
-ghost use Rattle.group_finder.specs.Choices.{group_need};
+ghost use Rattle.group_finder.specs.Choices.{group_need, group_need_of};
 ghost use Rattle.std.proofs.Common.{arith};
 ghost use Rattle.group_finder.specs.Concurring.{group_lawful};
 
@@ -20,6 +20,7 @@ use code::refusal::{Refusal, Section};
 use finder::Finder;
 use finder::fold::fold;
 use finder::found::Found;
+use finder::of_card::OfCard;
 use finder::plain::PlainFinder;
 use reading::Reading;
 
@@ -61,8 +62,8 @@ fn search_group<R: Reading>(
     requires concur { Concur group.now }
     requires room { need ≡ group_need (length group.now) (length others.now) }
     ensures { MatchResult result
-        (λ f. Answered R.Reading.weight R.Reading.size places.places (group.now ++ others.now) need word.now work.old work.new f.message f.reading)
-        (λ e. Refused R.Reading.size places.places need word.now work.old work.new e) }
+        (Answered R.Reading (record { span = places.places; rows = group.now ++ others.now; need = need }) word.now work.old work.new)
+        (Refused R.Reading.size places.places need word.now work.old work.new) }
 {
     let span = choice_count(others.len());
     let slots = group_slots(group, others, places, span);
@@ -118,12 +119,16 @@ impl GroupFinder {
     }
 }
 
+impl OfCard for GroupFinder {
+    ghost need_of = { group_need_of };
+
+    fn of_card(card: &FinishedCard) -> GroupFinder {
+        GroupFinder::new(card)
+    }
+}
+
 impl Finder for GroupFinder {
-    ghost span = { λ s. s.plain.length.places };
-
-    ghost rows = { λ s. take s.plain.count s.plain.rows };
-
-    ghost need = { λ s. group_need s.group (length (take s.plain.count s.plain.rows) - s.group) };
+    ghost meaning = { λ s. record { span = s.plain.length.places; rows = take s.plain.count s.plain.rows; need = group_need s.group (length (take s.plain.count s.plain.rows) - s.group) } };
 
     ghost lawful = { λ s.
         let rows = take s.plain.count s.plain.rows in
