@@ -3,3 +3,4 @@ pub mod Codewords
 pub mod Agreements
 pub mod Tops
 pub mod Spans
+pub mod Tables

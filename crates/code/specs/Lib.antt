@@ -1,4 +1,5 @@
 pub mod Limits
 pub mod Refusals
+pub mod RowTables
 pub mod Words
 pub mod Spans
