@@ -1,7 +1,5 @@
 #![tactic(auto)]
 
-mod own;
-
 ghost use Rattle.std.specs.Prelude.{◌≡◌, ℕ, ◌+◌, ◌-◌, ◌*◌, ◌%◌, ◌^◌, ◌<◌, ◌≤◌, true, List, [], ◌∷◌, ◌++◌, map, length, take, drop, Some, MatchOption, MatchResult, OnOk, nat_lt, slice_index};
 ghost use Rattle.std.specs.List.{AllByRecursion};
 ghost use Rattle.card.specs.Cards.{Lawful, rows_of, max_section_rows};
@@ -10,25 +8,28 @@ ghost use Rattle.card.specs.Tables.{card_of};
 ghost use Rattle.code.specs.Limits.{max_places, max_rows, sum_limit};
 ghost use Rattle.code.specs.Words.{Best, agrees, codeword, negated_at};
 ghost use Rattle.finder.specs.Search.{Answered, Refused, refusal};
-ghost use Rattle.coset_layer.specs.Layers.{held, layer_meaning};
+ghost use Rattle.coset_layer.specs.Layers.{layer_meaning};
 ghost use Rattle.coset_layer.specs.Pile.{above, cut_to, layer_rows, opposite_at, pile_rows, row_verdict};
 ghost use Rattle.coset_layer.specs.Piles.{pile_lawful};
 
-use crate::own::{LAYER_ROWS, OwnRows};
 use card::states::FinishedCard;
 use code::length::WordLength;
 use code::limits::{MAX_PLACES, MAX_ROWS};
 use code::refusal::{Refusal, Section};
+use code::rows::Rows;
 use code::words::word_of;
 use finder::Finder;
 use finder::found::Found;
 use reading::Reading;
 
+// The largest number of rows of one layer.
+const LAYER_ROWS: usize = 4;
+
 // A finder below, and up to four rows of its own above the rows of that finder.
 #[derive(Clone, Copy)]
 pub struct CosetLayer<F> {
     below: F,
-    own: OwnRows,
+    own: Rows<4>,
 }
 
 // The digits of a row at the first `n` places.
@@ -154,19 +155,19 @@ fn check_row(n: usize, k: usize, count: usize, row: u64) -> Result<(), Refusal>
 // The layer of a card's first four coset rows, and above it that of the others.
 fn two_layers<F: Finder>(below: F, coset: &[u64]) -> CosetLayer<CosetLayer<F>>
     ensures below { result.below.below ≡ below }
-    ensures lower { held result.below.own ≡ take layer_rows coset.now }
-    ensures upper { held result.own ≡ take layer_rows (drop layer_rows coset.now) }
+    ensures lower { result.below.own ≡ take layer_rows coset.now }
+    ensures upper { result.own ≡ take layer_rows (drop layer_rows coset.now) }
     ensures rows { length coset.now ≤ max_section_rows → length (F.Finder.meaning below).rows + length coset.now ≤ max_rows → Within (F.Finder.meaning below).span coset.now
         → (layer_meaning (layer_meaning F.Finder.meaning) result).rows ≡ (F.Finder.meaning below).rows ++ coset.now }
 {
     let lower = coset.len().min(LAYER_ROWS);
     let first = CosetLayer {
         below,
-        own: OwnRows::first_of(&coset[0..lower]),
+        own: Rows::first_of(&coset[0..lower]),
     };
     CosetLayer {
         below: first,
-        own: OwnRows::first_of(&coset[lower..coset.len()]),
+        own: Rows::first_of(&coset[lower..coset.len()]),
     }
 }
 
@@ -175,8 +176,8 @@ fn on_card<F: Finder>(below: F, card: &FinishedCard, coset: &[u64]) -> CosetLaye
     requires coset { coset.now ≡ (card_of card.now.table).coset }
     requires lawful { Lawful (card_of card.now.table) }
     ensures below { result.below.below ≡ below }
-    ensures lower { held result.below.own ≡ take layer_rows (card_of card.now.table).coset }
-    ensures upper { held result.own ≡ take layer_rows (drop layer_rows (card_of card.now.table).coset) }
+    ensures lower { result.below.own ≡ take layer_rows (card_of card.now.table).coset }
+    ensures upper { result.own ≡ take layer_rows (drop layer_rows (card_of card.now.table).coset) }
     ensures rows { (F.Finder.meaning below).span ≡ (card_of card.now.table).len → (F.Finder.meaning below).rows ≡ (card_of card.now.table).group ++ (card_of card.now.table).transform
         → (layer_meaning (layer_meaning F.Finder.meaning) result).rows ≡ rows_of (card_of card.now.table) }
 {
@@ -187,8 +188,8 @@ fn on_card<F: Finder>(below: F, card: &FinishedCard, coset: &[u64]) -> CosetLaye
 // Where the finder has the length and the group and transform rows of the card, the rows of the whole are the card's, in their order.
 pub fn card_layers<F: Finder>(below: F, card: &FinishedCard) -> CosetLayer<CosetLayer<F>>
     ensures below { result.below.below ≡ below }
-    ensures lower { held result.below.own ≡ take layer_rows (card_of card.now.table).coset }
-    ensures upper { held result.own ≡ take layer_rows (drop layer_rows (card_of card.now.table).coset) }
+    ensures lower { result.below.own ≡ take layer_rows (card_of card.now.table).coset }
+    ensures upper { result.own ≡ take layer_rows (drop layer_rows (card_of card.now.table).coset) }
     ensures rows { (F.Finder.meaning below).span ≡ (card_of card.now.table).len → (F.Finder.meaning below).rows ≡ (card_of card.now.table).group ++ (card_of card.now.table).transform
         → (layer_meaning (layer_meaning F.Finder.meaning) result).rows ≡ rows_of (card_of card.now.table) }
 {
@@ -198,11 +199,12 @@ pub fn card_layers<F: Finder>(below: F, card: &FinishedCard) -> CosetLayer<Coset
 impl<F: Finder> CosetLayer<F> {
     // The rows of its own that the layer reads: as many as keep the pile at 24.
     fn own_rows(&self) -> &[u64]
-        ensures value { result.now ≡ take (max_rows - length (F.Finder.meaning self.now.below).rows) (held self.now.own) }
+        ensures value { result.now ≡ take (max_rows - length (F.Finder.meaning self.now.below).rows) self.now.own }
         ensures few { length result.now ≤ layer_rows }
         ensures room { length result.now + length (F.Finder.meaning self.now.below).rows ≤ max_rows }
     {
-        self.own.first(MAX_ROWS - self.below.row_count())
+        let own = self.own.as_slice();
+        &own[0..own.len().min(MAX_ROWS - self.below.row_count())]
     }
 
     // The number of rows of the pile.
@@ -234,20 +236,20 @@ impl<F: Finder> CosetLayer<F> {
     // A layer with no rows of its own yet.
     pub fn new(below: F) -> CosetLayer<F>
         ensures below { result.below ≡ below }
-        ensures own { held result.own ≡ [] }
+        ensures own { result.own ≡ [] }
     {
         CosetLayer {
             below,
-            own: OwnRows::new(),
+            own: Rows::new(),
         }
     }
 
     // Adds a row of its own, or turns it down and leaves the layer as it was. The row may depend on others.
     pub fn add_row(&mut self, row: u64) -> Result<(), Refusal>
-        ensures value { result ≡ row_verdict (F.Finder.meaning self.old.below).span (length (F.Finder.meaning self.old.below).rows) (length (held self.old.own)) row }
+        ensures value { result ≡ row_verdict (F.Finder.meaning self.old.below).span (length (F.Finder.meaning self.old.below).rows) (length self.old.own) row }
         ensures below { self.new.below ≡ self.old.below }
         ensures own { MatchResult result
-            (λ _. held self.new.own ≡ held self.old.own ++ row ∷ [])
+            (λ _. self.new.own ≡ self.old.own ++ row ∷ [])
             (λ _. self.new ≡ self.old) }
         ensures rows { MatchResult result
             (λ _. (layer_meaning F.Finder.meaning self.new).rows ≡ (layer_meaning F.Finder.meaning self.old).rows ++ row ∷ [])
@@ -255,7 +257,7 @@ impl<F: Finder> CosetLayer<F> {
     {
         let n = self.below.length().places();
         let k = self.below.row_count();
-        match check_row(n, k, self.own.count(), row) {
+        match check_row(n, k, self.own.as_slice().len(), row) {
             Ok(()) => {
                 self.own.push(row);
                 Ok(())
@@ -268,7 +270,7 @@ impl<F: Finder> CosetLayer<F> {
 impl<F: Finder> Finder for CosetLayer<F> {
     ghost meaning = { layer_meaning F.Finder.meaning };
 
-    ghost lawful = { λ s. pile_lawful (F.Finder.meaning s.below) (take s.own.count s.own.rows) (F.Finder.lawful s.below) };
+    ghost lawful = { λ s. pile_lawful (F.Finder.meaning s.below) s.own (F.Finder.lawful s.below) };
 
     fn length(&self) -> WordLength {
         self.below.length()
