@@ -1,29 +1,17 @@
 #![tactic(auto)]
 
 ghost use Rattle.std.specs.Prelude.{◌≡◌};
-ghost use Rattle.card.specs.Cards.{rows_of};
 ghost use Rattle.card.specs.Tables.{card_of};
-ghost use Rattle.card_finder.specs.Whole.{group_need_at, group_need_of, group_rows, group_span, need_of_two, plain_need, plain_need_of, plain_rows, plain_span, rows_of_two, span_of_two};
+ghost use Rattle.coset_layer.specs.Layers.{layer_meaning};
+ghost use Rattle.card_finder.specs.Whole.{whole_meaning};
 
 use card::states::FinishedCard;
 use coset_layer::{CosetLayer, card_layers};
-use finder::plain::PlainFinder;
-use group_finder::GroupFinder;
+use finder::of_card::OfCard;
 
-// The finder of all rows of a card, with the plain finder below its coset layers.
-pub fn plain_finder(card: &FinishedCard) -> CosetLayer<CosetLayer<PlainFinder>>
-    ensures length { span_of_two plain_span result ≡ (card_of card.now.table).len }
-    ensures rows { rows_of_two plain_span plain_rows result ≡ rows_of (card_of card.now.table) }
-    ensures need { need_of_two plain_need result ≡ plain_need_of (card_of card.now.table) }
+// The finder of all rows of a card: a finder of its group and transform rows below its coset layers.
+pub fn card_finder<F: OfCard>(card: &FinishedCard) -> CosetLayer<CosetLayer<F>>
+    ensures { layer_meaning (layer_meaning F.Finder.meaning) result ≡ whole_meaning F.OfCard.need_of (card_of card.now.table) }
 {
-    card_layers(PlainFinder::new(card), card)
-}
-
-// The finder of all rows of a card, with the group finder below its coset layers.
-pub fn group_finder(card: &FinishedCard) -> CosetLayer<CosetLayer<GroupFinder>>
-    ensures length { span_of_two group_span result ≡ (card_of card.now.table).len }
-    ensures rows { rows_of_two group_span group_rows result ≡ rows_of (card_of card.now.table) }
-    ensures need { need_of_two group_need_at result ≡ group_need_of (card_of card.now.table) }
-{
-    card_layers(GroupFinder::new(card), card)
+    card_layers(F::of_card(card), card)
 }

@@ -2,6 +2,7 @@
 use Rattle.std.specs.Prelude.{ℕ, ◌+◌, ◌-◌, ◌/◌, ◌%◌, ◌^◌, cond, List, [], ◌∷◌, ◌++◌, map, length, take, Ok, Err, Result, nat_lt}
 use Rattle.code.specs.Limits.{max_rows}
 use Rattle.code.specs.Words.{odd}
+use Rattle.finder.specs.Search.{Meaning}
 use Rattle.code.specs.declared.refusal.Section.TheVariants.{Coset}
 use Rattle.code.specs.declared.refusal.Refusal.{Refusal}
 use Rattle.code.specs.declared.refusal.Refusal.TheVariants.{DigitBeyondLength, LayerFull, PileFull}
@@ -17,6 +18,14 @@ cut_to n rows = map (λ w. w % 2 ^ n) rows
 -- the rows of a layer that holds `own` above a finder of length n: those below, then its own, read within the length and as many as keep the pile at 24
 abbrev pub pile_rows : ℕ → List ℕ → List ℕ → List ℕ
 pile_rows n below own = below ++ cut_to n (take (max_rows - length below) own)
+
+-- a finder of the same length and need with more rows after its own
+abbrev pub above : Meaning → List ℕ → Meaning
+above by rows = record { span = by.span; rows = by.rows ++ rows; need = by.need }
+
+-- what a layer that holds `own` means, above a finder that means `below`
+abbrev pub piled : Meaning → List ℕ → Meaning
+piled below own = record { span = below.span; rows = pile_rows below.span below.rows own; need = below.need }
 
 -- the three checks of an added row, in their order, in a layer of so many rows above k rows of length n
 abbrev pub row_verdict : ℕ → ℕ → ℕ → ℕ → Result (Unit {0}) Refusal

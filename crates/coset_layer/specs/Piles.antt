@@ -8,8 +8,8 @@ use Rattle.std.proofs.lemmas.Bool.{cases_lt, cond-true, lt-ltb}
 use Rattle.card.specs.Rows.{Within}
 use Rattle.code.specs.Limits.{max_rows}
 use Rattle.code.specs.Words.{codeword}
-use Rattle.finder.specs.Search.{Lawful}
-use Rattle.coset_layer.specs.Pile.{cut_to, pile_rows, layer_rows, row_verdict}
+use Rattle.finder.specs.Search.{Lawful, Meaning}
+use Rattle.coset_layer.specs.Pile.{cut_to, pile_rows, piled, layer_rows, row_verdict}
 
 chosen_mod : (d r n : ℕ) → d < 2 → d * (r % 2 ^ n) ≡ (d * r) % 2 ^ n
 chosen_mod zero r n h = zero-mul (r % 2 ^ n) ∙ sym (ap (λ (x : ℕ). x % 2 ^ n) (zero-mul r) ∙ zero-mod (2 ^ n))
@@ -29,8 +29,10 @@ pub pile_count_lem : (n : ℕ) (below own : List ℕ) → length (pile_rows n be
 pile_count_lem n below own = length-append below (cut_to n (take (max_rows - length below) own)) ∙ ap (λ (k : ℕ). length below + k) (length-map (take (max_rows - length below) own) (λ w. w % 2 ^ n))
 
 -- a pile on a lawful finder is one
-pub pile_lawful : (n : ℕ) (below : List ℕ) (need : ℕ) (own : List ℕ) → Lawful n below need → Lawful n (pile_rows n below own) need
-pile_lawful n below need own l =
+pub pile_lawful : (by : Meaning) (own : List ℕ) → Lawful by → Lawful (piled by own)
+pile_lawful by own l =
+    let n = by.span in
+    let below = by.rows in
     let read = take (max_rows - length below) own in
     let c = pile_count_lem n below own in
     let t = length-take (max_rows - length below) own in

@@ -1,7 +1,5 @@
 #![tactic(auto)]
 
-mod own;
-
 ghost use Rattle.std.specs.Prelude.{◌≡◌, ℕ, ◌+◌, ◌-◌, ◌*◌, ◌%◌, ◌^◌, ◌<◌, ◌≤◌, true, List, [], ◌∷◌, ◌++◌, map, length, take, drop, Some, MatchOption, MatchResult, OnOk, nat_lt, slice_index};
 ghost use Rattle.std.specs.List.{AllByRecursion};
 ghost use Rattle.card.specs.Cards.{Lawful, rows_of, max_section_rows};
@@ -10,25 +8,28 @@ ghost use Rattle.card.specs.Tables.{card_of};
 ghost use Rattle.code.specs.Limits.{max_places, max_rows, sum_limit};
 ghost use Rattle.code.specs.Words.{Best, agrees, codeword, negated_at};
 ghost use Rattle.finder.specs.Search.{Answered, Refused, refusal};
-ghost use Rattle.coset_layer.specs.Layers.{held, layer_rows_of, layer_span};
-ghost use Rattle.coset_layer.specs.Pile.{cut_to, layer_rows, opposite_at, pile_rows, row_verdict};
+ghost use Rattle.coset_layer.specs.Layers.{layer_meaning};
+ghost use Rattle.coset_layer.specs.Pile.{above, cut_to, layer_rows, opposite_at, pile_rows, row_verdict};
 ghost use Rattle.coset_layer.specs.Piles.{pile_lawful};
 
-use crate::own::{LAYER_ROWS, OwnRows};
 use card::states::FinishedCard;
 use code::length::WordLength;
 use code::limits::{MAX_PLACES, MAX_ROWS};
 use code::refusal::{Refusal, Section};
+use code::rows::Rows;
 use code::words::word_of;
 use finder::Finder;
 use finder::found::Found;
 use reading::Reading;
 
+// The largest number of rows of one layer.
+const LAYER_ROWS: usize = 4;
+
 // A finder below, and up to four rows of its own above the rows of that finder.
 #[derive(Clone, Copy)]
 pub struct CosetLayer<F> {
     below: F,
-    own: OwnRows,
+    own: Rows<4>,
 }
 
 // The digits of a row at the first `n` places.
@@ -79,10 +80,10 @@ fn search_negated<R: Reading, F: Finder>(
     requires { AllByRecursion (λ x. R.Reading.size x ≤ sum_limit) word.old }
     ensures same { word.new ≡ word.old }
     ensures answer { MatchResult result
-        (λ f. Best (F.Finder.rows below.now) (negated_at (map R.Reading.weight word.old) mask) f.message
-        × (R.Reading.weight f.reading ≡ agrees (F.Finder.rows below.now) (negated_at (map R.Reading.weight word.old) mask) f.message)
-        × (drop (F.Finder.need below.now) work.new ≡ drop (F.Finder.need below.now) work.old))
-        (λ e. refusal (F.Finder.span below.now) (F.Finder.need below.now) (map R.Reading.size word.old) (length work.old) ≡ Some e) }
+        (λ f. Best (F.Finder.meaning below.now).rows (negated_at (map R.Reading.weight word.old) mask) f.message
+        × (R.Reading.weight f.reading ≡ agrees (F.Finder.meaning below.now).rows (negated_at (map R.Reading.weight word.old) mask) f.message)
+        × (drop (F.Finder.meaning below.now).need work.new ≡ drop (F.Finder.meaning below.now).need work.old))
+        (λ e. refusal (F.Finder.meaning below.now).span (F.Finder.meaning below.now).need (map R.Reading.size word.old) (length work.old) ≡ Some e) }
 {
     negate_at(word, mask);
     let found = below.search(word, work);
@@ -99,14 +100,14 @@ fn search_choices<R: Reading, F: Finder>(
     word: &mut [R],
     work: &mut [R],
 ) -> Result<Found<R>, Refusal>
-    requires span { n ≡ F.Finder.span below.now }
-    requires count { k ≡ length (F.Finder.rows below.now) }
+    requires span { n ≡ (F.Finder.meaning below.now).span }
+    requires count { k ≡ length (F.Finder.meaning below.now).rows }
     requires few { length own.now ≤ layer_rows }
     requires room { length own.now + k ≤ max_rows }
     ensures same { word.new ≡ word.old }
     ensures answer { MatchResult result
-        (λ f. Answered R.Reading.weight R.Reading.size (F.Finder.span below.now) (F.Finder.rows below.now ++ cut_to n own.now) (F.Finder.need below.now) word.old work.old work.new f.message f.reading)
-        (λ e. Refused R.Reading.size (F.Finder.span below.now) (F.Finder.need below.now) word.old work.old work.new e) }
+        (Answered R.Reading (above (F.Finder.meaning below.now) (cut_to n own.now)) word.old work.old work.new)
+        (Refused R.Reading.size (F.Finder.meaning below.now).span (F.Finder.meaning below.now).need word.old work.old work.new) }
 {
     let mut best = match below.search(word, work) {
         Ok(found) => found,
@@ -154,19 +155,19 @@ fn check_row(n: usize, k: usize, count: usize, row: u64) -> Result<(), Refusal>
 // The layer of a card's first four coset rows, and above it that of the others.
 fn two_layers<F: Finder>(below: F, coset: &[u64]) -> CosetLayer<CosetLayer<F>>
     ensures below { result.below.below ≡ below }
-    ensures lower { held result.below.own ≡ take layer_rows coset.now }
-    ensures upper { held result.own ≡ take layer_rows (drop layer_rows coset.now) }
-    ensures rows { length coset.now ≤ max_section_rows → length (F.Finder.rows below) + length coset.now ≤ max_rows → Within (F.Finder.span below) coset.now
-        → layer_rows_of (layer_span F.Finder.span) (layer_rows_of F.Finder.span F.Finder.rows) result ≡ F.Finder.rows below ++ coset.now }
+    ensures lower { result.below.own ≡ take layer_rows coset.now }
+    ensures upper { result.own ≡ take layer_rows (drop layer_rows coset.now) }
+    ensures rows { length coset.now ≤ max_section_rows → length (F.Finder.meaning below).rows + length coset.now ≤ max_rows → Within (F.Finder.meaning below).span coset.now
+        → (layer_meaning (layer_meaning F.Finder.meaning) result).rows ≡ (F.Finder.meaning below).rows ++ coset.now }
 {
     let lower = coset.len().min(LAYER_ROWS);
     let first = CosetLayer {
         below,
-        own: OwnRows::first_of(&coset[0..lower]),
+        own: Rows::first_of(&coset[0..lower]),
     };
     CosetLayer {
         below: first,
-        own: OwnRows::first_of(&coset[lower..coset.len()]),
+        own: Rows::first_of(&coset[lower..coset.len()]),
     }
 }
 
@@ -175,10 +176,10 @@ fn on_card<F: Finder>(below: F, card: &FinishedCard, coset: &[u64]) -> CosetLaye
     requires coset { coset.now ≡ (card_of card.now.table).coset }
     requires lawful { Lawful (card_of card.now.table) }
     ensures below { result.below.below ≡ below }
-    ensures lower { held result.below.own ≡ take layer_rows (card_of card.now.table).coset }
-    ensures upper { held result.own ≡ take layer_rows (drop layer_rows (card_of card.now.table).coset) }
-    ensures rows { F.Finder.span below ≡ (card_of card.now.table).len → F.Finder.rows below ≡ (card_of card.now.table).group ++ (card_of card.now.table).transform
-        → layer_rows_of (layer_span F.Finder.span) (layer_rows_of F.Finder.span F.Finder.rows) result ≡ rows_of (card_of card.now.table) }
+    ensures lower { result.below.own ≡ take layer_rows (card_of card.now.table).coset }
+    ensures upper { result.own ≡ take layer_rows (drop layer_rows (card_of card.now.table).coset) }
+    ensures rows { (F.Finder.meaning below).span ≡ (card_of card.now.table).len → (F.Finder.meaning below).rows ≡ (card_of card.now.table).group ++ (card_of card.now.table).transform
+        → (layer_meaning (layer_meaning F.Finder.meaning) result).rows ≡ rows_of (card_of card.now.table) }
 {
     two_layers(below, coset)
 }
@@ -187,10 +188,10 @@ fn on_card<F: Finder>(below: F, card: &FinishedCard, coset: &[u64]) -> CosetLaye
 // Where the finder has the length and the group and transform rows of the card, the rows of the whole are the card's, in their order.
 pub fn card_layers<F: Finder>(below: F, card: &FinishedCard) -> CosetLayer<CosetLayer<F>>
     ensures below { result.below.below ≡ below }
-    ensures lower { held result.below.own ≡ take layer_rows (card_of card.now.table).coset }
-    ensures upper { held result.own ≡ take layer_rows (drop layer_rows (card_of card.now.table).coset) }
-    ensures rows { F.Finder.span below ≡ (card_of card.now.table).len → F.Finder.rows below ≡ (card_of card.now.table).group ++ (card_of card.now.table).transform
-        → layer_rows_of (layer_span F.Finder.span) (layer_rows_of F.Finder.span F.Finder.rows) result ≡ rows_of (card_of card.now.table) }
+    ensures lower { result.below.own ≡ take layer_rows (card_of card.now.table).coset }
+    ensures upper { result.own ≡ take layer_rows (drop layer_rows (card_of card.now.table).coset) }
+    ensures rows { (F.Finder.meaning below).span ≡ (card_of card.now.table).len → (F.Finder.meaning below).rows ≡ (card_of card.now.table).group ++ (card_of card.now.table).transform
+        → (layer_meaning (layer_meaning F.Finder.meaning) result).rows ≡ rows_of (card_of card.now.table) }
 {
     on_card(below, card, card.section_rows(Section::Coset))
 }
@@ -198,16 +199,17 @@ pub fn card_layers<F: Finder>(below: F, card: &FinishedCard) -> CosetLayer<Coset
 impl<F: Finder> CosetLayer<F> {
     // The rows of its own that the layer reads: as many as keep the pile at 24.
     fn own_rows(&self) -> &[u64]
-        ensures value { result.now ≡ take (max_rows - length (F.Finder.rows self.now.below)) (held self.now.own) }
+        ensures value { result.now ≡ take (max_rows - length (F.Finder.meaning self.now.below).rows) self.now.own }
         ensures few { length result.now ≤ layer_rows }
-        ensures room { length result.now + length (F.Finder.rows self.now.below) ≤ max_rows }
+        ensures room { length result.now + length (F.Finder.meaning self.now.below).rows ≤ max_rows }
     {
-        self.own.first(MAX_ROWS - self.below.row_count())
+        let own = self.own.as_slice();
+        &own[0..own.len().min(MAX_ROWS - self.below.row_count())]
     }
 
     // The number of rows of the pile.
     fn pile_count(&self) -> usize
-        ensures { result ≡ length (layer_rows_of F.Finder.span F.Finder.rows self.now) }
+        ensures { result ≡ length ((layer_meaning F.Finder.meaning self.now).rows) }
     {
         self.below.row_count() + self.own_rows().len()
     }
@@ -215,8 +217,8 @@ impl<F: Finder> CosetLayer<F> {
     // Row j of the pile.
     fn pile_row(&self, j: usize) -> Option<u64>
         ensures { MatchOption result
-            (length (layer_rows_of F.Finder.span F.Finder.rows self.now) ≤ j)
-            (λ w. (j < length (layer_rows_of F.Finder.span F.Finder.rows self.now)) × (w ≡ slice_index (layer_rows_of F.Finder.span F.Finder.rows self.now) j)) }
+            (length ((layer_meaning F.Finder.meaning self.now).rows) ≤ j)
+            (λ w. (j < length ((layer_meaning F.Finder.meaning self.now).rows)) × (w ≡ slice_index ((layer_meaning F.Finder.meaning self.now).rows) j)) }
     {
         let k = self.below.row_count();
         if j < k {
@@ -234,28 +236,28 @@ impl<F: Finder> CosetLayer<F> {
     // A layer with no rows of its own yet.
     pub fn new(below: F) -> CosetLayer<F>
         ensures below { result.below ≡ below }
-        ensures own { held result.own ≡ [] }
+        ensures own { result.own ≡ [] }
     {
         CosetLayer {
             below,
-            own: OwnRows::new(),
+            own: Rows::new(),
         }
     }
 
     // Adds a row of its own, or turns it down and leaves the layer as it was. The row may depend on others.
     pub fn add_row(&mut self, row: u64) -> Result<(), Refusal>
-        ensures value { result ≡ row_verdict (F.Finder.span self.old.below) (length (F.Finder.rows self.old.below)) (length (held self.old.own)) row }
+        ensures value { result ≡ row_verdict (F.Finder.meaning self.old.below).span (length (F.Finder.meaning self.old.below).rows) (length self.old.own) row }
         ensures below { self.new.below ≡ self.old.below }
         ensures own { MatchResult result
-            (λ _. held self.new.own ≡ held self.old.own ++ row ∷ [])
+            (λ _. self.new.own ≡ self.old.own ++ row ∷ [])
             (λ _. self.new ≡ self.old) }
         ensures rows { MatchResult result
-            (λ _. layer_rows_of F.Finder.span F.Finder.rows self.new ≡ layer_rows_of F.Finder.span F.Finder.rows self.old ++ row ∷ [])
+            (λ _. (layer_meaning F.Finder.meaning self.new).rows ≡ (layer_meaning F.Finder.meaning self.old).rows ++ row ∷ [])
             (λ _. Unit {0}) }
     {
         let n = self.below.length().places();
         let k = self.below.row_count();
-        match check_row(n, k, self.own.count(), row) {
+        match check_row(n, k, self.own.as_slice().len(), row) {
             Ok(()) => {
                 self.own.push(row);
                 Ok(())
@@ -266,13 +268,9 @@ impl<F: Finder> CosetLayer<F> {
 }
 
 impl<F: Finder> Finder for CosetLayer<F> {
-    ghost span = { layer_span F.Finder.span };
+    ghost meaning = { layer_meaning F.Finder.meaning };
 
-    ghost rows = { layer_rows_of F.Finder.span F.Finder.rows };
-
-    ghost need = { λ s. F.Finder.need s.below };
-
-    ghost lawful = { λ s. pile_lawful _ _ _ (take s.own.count s.own.rows) (F.Finder.lawful s.below) };
+    ghost lawful = { λ s. pile_lawful (F.Finder.meaning s.below) s.own (F.Finder.lawful s.below) };
 
     fn length(&self) -> WordLength {
         self.below.length()

@@ -4,3 +4,4 @@ pub mod Same
 pub mod Fold
 pub mod PlainRows
 pub mod Gather
+pub mod OfCard

@@ -11,7 +11,7 @@ use Rattle.hadamard.specs.Transform.{spectrum, Transformed, verdict, weight_at}
 use Rattle.hadamard.proofs.Powers.{verdict-taken}
 use Rattle.hadamard.proofs.Sums.{summed_ext}
 use Rattle.finder.specs.Fold.{column, column_rows, sum_of_slot}
-use Rattle.finder.specs.Search.{Lawful}
+use Rattle.finder.specs.Search.{Lawful, Meaning}
 use Rattle.finder.specs.Gather.{column_below, folded_agrees}
 
 -- a transform that is not refused
@@ -37,5 +37,5 @@ module _ {R : Type 0} (weight : R → ℤ) (size : R → ℕ) (rows slots : List
       ∙ summed_ext (length word) _ _ (λ i j. ap (λ (c : ℕ). cond (c == x) (weight_at weight word i) (pos 0)) (cols i (omega arith) ∙ ap (λ (r : List ℕ). column r i) whole))
       ∙ ap (λ (j : ℕ). sum_of_slot (column rows) (weight_at weight word) j x) (sym n))
 
-pub plain_lawful : (n : ℕ) (rows : List ℕ) → Length n → length rows ≤ column_rows → Within n rows → Lawful n rows (2 ^ length rows)
+pub plain_lawful : (n : ℕ) (rows : List ℕ) → Length n → length rows ≤ column_rows → Within n rows → Lawful (record { span = n; rows = rows; need = 2 ^ length rows })
 plain_lawful n rows s f w = record { sized = s; few = omega arith; small = omega arith; within = w }

@@ -4,13 +4,21 @@ use Rattle.code.specs.Limits.{Length, size_limit, max_rows}
 use Rattle.code.specs.Words.{Best, agrees}
 use Rattle.code.specs.declared.refusal.Refusal.{Refusal}
 use Rattle.code.specs.declared.refusal.Refusal.TheVariants.{WordLengthDiffers, SizeTooLarge, WorkMemoryShort}
+use Rattle.reading.specs.declared.Reading.{Ghosts as Kind}
+use Rattle.finder.specs.declared.found.Found.{Found}
 
--- a finder's length, rows and need: at most 24 rows, none with a digit beyond the length, and a need of at most 4 * 2 ^ (row count)
-pub record Lawful (n : ℕ) (rows : List ℕ) (need : ℕ) : Type 0 where
-  pub sized : Length n
-  pub few : length rows ≤ max_rows
-  pub small : need ≤ 4 * 2 ^ length rows
-  pub within : (j : ℕ) → j < length rows → slice_index rows j < 2 ^ n
+-- what a finder means: the length of its words, its rows, and how many readings of work memory a search needs
+pub record Meaning : Type 0 where
+  pub span : ℕ
+  pub rows : List ℕ
+  pub need : ℕ
+
+-- at most 24 rows, none with a digit beyond the length, and a need of at most 4 * 2 ^ (row count)
+pub record Lawful (by : Meaning) : Type 0 where
+  pub sized : Length by.span
+  pub few : length by.rows ≤ max_rows
+  pub small : by.need ≤ 4 * 2 ^ length by.rows
+  pub within : (j : ℕ) → j < length by.rows → slice_index by.rows j < 2 ^ by.span
 
 -- the refusal of the first size above the limit, places counted from i, or else what comes after
 abbrev pub large_from : ℕ → List ℕ → Option Refusal → Option Refusal
@@ -22,12 +30,12 @@ unfoldable pub refusal : ℕ → ℕ → List ℕ → ℕ → Option Refusal
 refusal n need sizes work =
     cond (length sizes == n) (large_from 0 sizes (cond (nat_le need work) None (Some WorkMemoryShort))) (Some WordLengthDiffers)
 
--- a search that answered the message m and the reading `best`, and left the work memory as `after`
-pub record Answered {R : Type 0} (weight : R → ℤ) (size : R → ℕ) (n : ℕ) (rows : List ℕ) (need : ℕ) (word work after : List R) (m : ℕ) (best : R) : Type 0 where
-  pub taken : refusal n need (map size word) (length work) ≡ None
-  pub is_best : Best rows (map weight word) m
-  pub weighs : weight best ≡ agrees rows (map weight word) m
-  pub beyond : drop need after ≡ drop need work
+-- a search by that finder that found this, and left the work memory as `after`
+pub record Answered {R : Type 0} (kind : Kind R) (by : Meaning) (word work after : List R) (found : Found R) : Type 0 where
+  pub taken : refusal by.span by.need (map kind.size word) (length work) ≡ None
+  pub is_best : Best by.rows (map kind.weight word) found.message
+  pub weighs : kind.weight found.reading ≡ agrees by.rows (map kind.weight word) found.message
+  pub beyond : drop by.need after ≡ drop by.need work
 
 -- a search that was turned down for the reason e
 pub record Refused {R : Type 0} (size : R → ℕ) (n need : ℕ) (word work after : List R) (e : Refusal) : Type 0 where

@@ -20,13 +20,12 @@ pub fn search_both<R: Reading, Q: Reading, A: Finder, B: Finder>(
     ensures same_a { word_a.new ≡ word_a.old }
     ensures same_b { word_b.new ≡ word_b.old }
     ensures answer { MatchResult result
-        (λ p. Answered R.Reading.weight R.Reading.size (A.Finder.span a.now) (A.Finder.rows a.now) (A.Finder.need a.now) word_a.old work_a.old work_a.new p.0.message p.0.reading
-        × Answered Q.Reading.weight Q.Reading.size (B.Finder.span b.now) (B.Finder.rows b.now) (B.Finder.need b.now) word_b.old work_b.old work_b.new p.1.message p.1.reading)
-        (λ e. (Refused R.Reading.size (A.Finder.span a.now) (A.Finder.need a.now) word_a.old work_a.old work_a.new e × (work_b.new ≡ work_b.old))
-        ⊎ (Taken R.Reading.size (A.Finder.span a.now) (A.Finder.need a.now) word_a.old work_a.old work_a.new
-        × Refused Q.Reading.size (B.Finder.span b.now) (B.Finder.need b.now) word_b.old work_b.old work_b.new e)) }
+        (λ p. Answered R.Reading (A.Finder.meaning a.now) word_a.old work_a.old work_a.new p.0 × Answered Q.Reading (B.Finder.meaning b.now) word_b.old work_b.old work_b.new p.1)
+        (λ e. (Refused R.Reading.size (A.Finder.meaning a.now).span (A.Finder.meaning a.now).need word_a.old work_a.old work_a.new e × (work_b.new ≡ work_b.old))
+        ⊎ (Taken R.Reading.size (A.Finder.meaning a.now).span (A.Finder.meaning a.now).need word_a.old work_a.old work_a.new
+        × Refused Q.Reading.size (B.Finder.meaning b.now).span (B.Finder.meaning b.now).need word_b.old work_b.old work_b.new e)) }
     ensures agree { MatchResult result
-        (λ p. SameAnswer (A.Finder.rows a.now) (B.Finder.rows b.now) (map R.Reading.weight word_a.old) (map Q.Reading.weight word_b.old) p.0.message p.1.message (R.Reading.weight p.0.reading) (Q.Reading.weight p.1.reading))
+        (λ p. SameAnswer (A.Finder.meaning a.now).rows (B.Finder.meaning b.now).rows (map R.Reading.weight word_a.old) (map Q.Reading.weight word_b.old) p.0.message p.1.message (R.Reading.weight p.0.reading) (Q.Reading.weight p.1.reading))
         (λ _. Unit {0}) }
 {
     let first = match a.search(word_a, work_a) {

@@ -15,11 +15,7 @@ pub enum Either<A, B> {
 }
 
 impl<A: Finder, B: Finder> Finder for Either<A, B> {
-    ghost span = { of_side A.Finder.span B.Finder.span };
-
-    ghost rows = { of_side A.Finder.rows B.Finder.rows };
-
-    ghost need = { of_side A.Finder.need B.Finder.need };
+    ghost meaning = { of_side A.Finder.meaning B.Finder.meaning };
 
     ghost lawful = { Prim.search rules };
 

@@ -98,7 +98,7 @@ fn fold_checked<R: Reading>(
 ) -> Result<(), Refusal>
     requires { (n ≤ max_places) × (length slots.now ≡ max_places) }
     ensures { MatchResult result
-        (λ _. Folded R.Reading.weight R.Reading.size n need slots.now word.now work.old work.new)
+        (λ _. Folded R.Reading n need slots.now word.now work.old work.new)
         (λ e. Refused R.Reading.size n need word.now work.old work.new e) }
 {
     if let Some(refusal) = check(word, n, need, work.len()) {
@@ -120,7 +120,7 @@ pub fn fold<R: Reading>(
     work: &mut [R],
 ) -> Result<(), Refusal>
     ensures { MatchResult result
-        (λ _. Folded R.Reading.weight R.Reading.size length.places need slots.now word.now work.old work.new)
+        (λ _. Folded R.Reading length.places need slots.now word.now work.old work.new)
         (λ e. Refused R.Reading.size length.places need word.now work.old work.new e) }
 {
     fold_checked(word, length.places(), slots, need, work)

@@ -5,6 +5,7 @@ ghost use Rattle.card.specs.Tables.{card_of};
 ghost use Rattle.hadamard.specs.Transform.{weight_at};
 ghost use Rattle.finder.specs.Search.{Answered, Refused};
 ghost use Rattle.finder.specs.Fold.{column_rows};
+ghost use Rattle.finder.specs.OfCard.{card_meaning, plain_need_of};
 ghost use Rattle.std.proofs.Common.{arith};
 ghost use Rattle.std.proofs.lemmas.List.{length-take};
 ghost use Rattle.finder.specs.PlainRows.{plain_lawful};
@@ -15,17 +16,17 @@ use crate::found::Found;
 use card::states::FinishedCard;
 use code::length::WordLength;
 use code::refusal::{Refusal, Section};
+use code::rows::Rows;
 use hadamard::transform;
 use reading::Reading;
 
-// The plain finder: the rows of a card's group and transform sections, at most 16, the first `count` of the table.
+// The plain finder: a word length, and at most 16 rows within it.
 #[derive(Clone, Copy)]
 pub struct PlainFinder {
-    length: WordLength,
-    rows: [u64; 16],
-    count: usize,
-    ghost few: { count ≤ column_rows },
-    ghost within: { Within length.places (take count rows) },
+    span: WordLength,
+    rows: Rows<16>,
+    ghost few: { length rows ≤ column_rows },
+    ghost within: { Within span.places rows },
 }
 
 // The first entry of the greatest weight.
@@ -74,7 +75,7 @@ fn search_rows<R: Reading>(
     requires few { length rows.now ≤ column_rows }
     requires room { need ≡ 2 ^ length rows.now }
     ensures { MatchResult result
-        (λ f. Answered R.Reading.weight R.Reading.size span.places rows.now need word.now work.old work.new f.message f.reading)
+        (Answered R.Reading (record { span = span.places; rows = rows.now; need = need }) word.now work.old work.new)
         (λ e. Refused R.Reading.size span.places need word.now work.old work.new e) }
 {
     let slots = columns(rows, span);
@@ -88,34 +89,21 @@ fn search_rows<R: Reading>(
     }
 }
 
-// A table that begins with the first `count` of the rows.
-fn table_of(rows: &[u64], count: usize) -> [u64; 16]
-    requires { (count ≤ length rows.now) × (count ≤ column_rows) }
-    ensures { take count result ≡ take count rows.now }
-{
-    let mut table = [0; 16];
-    table[0..count].copy_from_slice(&rows[0..count]);
-    table
-}
-
 // The plain finder of the first `count` rows of a card, which are those of its group and transform sections.
 fn first_rows(card: &FinishedCard, count: usize) -> PlainFinder
     requires { count ≡ length (card_of card.now.table).group + length (card_of card.now.table).transform }
-    ensures length { result.length.places ≡ (card_of card.now.table).len }
-    ensures rows { take result.count result.rows ≡ (card_of card.now.table).group ++ (card_of card.now.table).transform }
+    ensures { ⟦<PlainFinder as Finder>⟧.meaning result ≡ card_meaning plain_need_of (card_of card.now.table) }
 {
     PlainFinder {
-        length: card.word_length(),
-        rows: table_of(card.rows(), count),
-        count,
+        span: card.word_length(),
+        rows: Rows::first_of(&card.rows()[0..count]),
     }
 }
 
 impl PlainFinder {
     // The plain finder of a card's group and transform rows.
     pub fn new(card: &FinishedCard) -> PlainFinder
-        ensures length { result.length.places ≡ (card_of card.now.table).len }
-        ensures rows { take result.count result.rows ≡ (card_of card.now.table).group ++ (card_of card.now.table).transform }
+        ensures { ⟦<PlainFinder as Finder>⟧.meaning result ≡ card_meaning plain_need_of (card_of card.now.table) }
     {
         let group = card.section_rows(Section::Group).len();
         let transform = card.section_rows(Section::Transform).len();
@@ -124,27 +112,20 @@ impl PlainFinder {
 
     // The rows, in their order.
     pub fn rows(&self) -> &[u64]
-        ensures value { result.now ≡ take self.now.count self.now.rows }
+        ensures value { result.now ≡ self.now.rows }
         ensures few { length result.now ≤ column_rows }
     {
-        &self.rows[0..self.count]
+        self.rows.as_slice()
     }
 }
 
 impl Finder for PlainFinder {
-    ghost span = { λ s. s.length.places };
+    ghost meaning = { λ s. record { span = s.span.places; rows = s.rows; need = 2 ^ length s.rows } };
 
-    ghost rows = { λ s. take s.count s.rows };
-
-    ghost need = { λ s. 2 ^ length (take s.count s.rows) };
-
-    ghost lawful = { λ s.
-        let l = length-take s.count s.rows in
-        let f = s.few in
-        plain_lawful s.length.places (take s.count s.rows) s.length.lawful (omega arith) s.within };
+    ghost lawful = { λ s. plain_lawful s.span.places s.rows s.span.lawful s.few s.within };
 
     fn length(&self) -> WordLength {
-        self.length
+        self.span
     }
 
     fn row_count(&self) -> usize {
@@ -160,6 +141,6 @@ impl Finder for PlainFinder {
     }
 
     fn search<R: Reading>(&self, word: &mut [R], work: &mut [R]) -> Result<Found<R>, Refusal> {
-        search_rows(self.rows(), self.length, self.need(), word, work)
+        search_rows(self.rows(), self.span, self.need(), word, work)
     }
 }

@@ -1,5 +1,6 @@
 -- Choices of group rows by parity.
-use Rattle.std.specs.Prelude.{◌≡◌, ℕ, zero, suc, ◌+◌, ◌-◌, ◌*◌, ◌/◌, ◌%◌, ◌^◌, ◌<◌, ◌≤◌, max, Bool, true, false, cond, not, ◌⊎◌, List, map, take, drop, ℤ, pos, ◌+ℤ◌, neg_ℤ, ◌≤ℤ◌, ◌<ℤ◌, sum_by, ◌==◌, count_ones}
+use Rattle.std.specs.Prelude.{◌≡◌, ℕ, zero, suc, ◌+◌, ◌-◌, ◌*◌, ◌/◌, ◌%◌, ◌^◌, ◌<◌, ◌≤◌, max, Bool, true, false, cond, not, ◌⊎◌, List, map, length, take, drop, ℤ, pos, ◌+ℤ◌, neg_ℤ, ◌≤ℤ◌, ◌<ℤ◌, sum_by, ◌==◌, count_ones}
+use Rattle.card.specs.Cards.{Card}
 use Rattle.hadamard.specs.Transform.{summed, odd_common, weight_at, size_at, spectrum}
 use Rattle.code.specs.Words.{Top, negated_if, odd}
 
@@ -92,3 +93,7 @@ Concurs J c = (c ≡ 0) ⊎ (((j : ℕ) × ((j < J) × (c ≡ 2 ^ j))) ⊎ (c �
 -- how many readings the group finder needs for J group rows and T others
 abbrev pub group_need : ℕ → ℕ → ℕ
 group_need J T = (J + 2) * 2 ^ T
+
+-- the need of the group finder of a card
+abbrev pub group_need_of : Card → ℕ
+group_need_of k = group_need (length k.group) (length k.transform)

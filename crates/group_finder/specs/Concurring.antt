@@ -64,7 +64,7 @@ few_lists : (j : ℕ) → j + 2 ≤ 4 * 2 ^ j
 few_lists zero = omega arith
 few_lists (suc j) = let h = few_lists j in let e = pow-succ' 2 j in omega arith
 
-pub group_lawful : (n : ℕ) (rows : List ℕ) (J T : ℕ) → length rows ≡ J + T → Length n → length rows ≤ 24 → Within n rows → Lawful n rows (group_need J T)
+pub group_lawful : (n : ℕ) (rows : List ℕ) (J T : ℕ) → length rows ≡ J + T → Length n → length rows ≤ 24 → Within n rows → Lawful (record { span = n; rows = rows; need = group_need J T })
 group_lawful n rows J T l s f w =
     let m : (J + 2) * 2 ^ T ≤ (4 * 2 ^ J) * 2 ^ T = mul-le-mul_right (2 ^ T) (few_lists J) in
     let e : 2 ^ length rows ≡ 2 ^ J * 2 ^ T = ap (λ (k : ℕ). 2 ^ k) l ∙ pow-add 2 J T in

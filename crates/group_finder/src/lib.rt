@@ -8,7 +8,8 @@ ghost use Rattle.card.specs.Cards.{Lawful, max_section_rows};
 ghost use Rattle.card.specs.Rows.{Concur};
 ghost use Rattle.card.specs.Tables.{card_of};
 ghost use Rattle.finder.specs.Search.{Answered, Refused};
-ghost use Rattle.group_finder.specs.Choices.{group_need};
+ghost use Rattle.finder.specs.OfCard.{card_meaning, plain_need_of};
+ghost use Rattle.group_finder.specs.Choices.{group_need, group_need_of};
 ghost use Rattle.std.proofs.Common.{arith};
 ghost use Rattle.group_finder.specs.Concurring.{group_lawful};
 
@@ -20,6 +21,7 @@ use code::refusal::{Refusal, Section};
 use finder::Finder;
 use finder::fold::fold;
 use finder::found::Found;
+use finder::of_card::OfCard;
 use finder::plain::PlainFinder;
 use reading::Reading;
 
@@ -28,8 +30,8 @@ use reading::Reading;
 pub struct GroupFinder {
     plain: PlainFinder,
     group: usize,
-    ghost few: { (group ≤ max_section_rows) × (group ≤ length (take plain.count plain.rows)) × (length (take plain.count plain.rows) ≤ group + max_section_rows) },
-    ghost concur: { Concur (take group (take plain.count plain.rows)) },
+    ghost few: { (group ≤ max_section_rows) × (group ≤ length plain.rows) × (length plain.rows ≤ group + max_section_rows) },
+    ghost concur: { Concur (take group plain.rows) },
 }
 
 // The number of choices of so many rows.
@@ -61,8 +63,8 @@ fn search_group<R: Reading>(
     requires concur { Concur group.now }
     requires room { need ≡ group_need (length group.now) (length others.now) }
     ensures { MatchResult result
-        (λ f. Answered R.Reading.weight R.Reading.size places.places (group.now ++ others.now) need word.now work.old work.new f.message f.reading)
-        (λ e. Refused R.Reading.size places.places need word.now work.old work.new e) }
+        (Answered R.Reading (record { span = places.places; rows = group.now ++ others.now; need = need }) word.now work.old work.new)
+        (Refused R.Reading.size places.places need word.now work.old work.new) }
 {
     let span = choice_count(others.len());
     let slots = group_slots(group, others, places, span);
@@ -78,10 +80,11 @@ fn search_group<R: Reading>(
 
 // The group finder of the plain finder's rows, the first `group` of which are the card's group.
 fn with_group(plain: PlainFinder, card: &FinishedCard, group: usize) -> GroupFinder
-    requires rows { take plain.count plain.rows ≡ (card_of card.now.table).group ++ (card_of card.now.table).transform }
+    requires plain { ⟦<PlainFinder as Finder>⟧.meaning plain ≡ card_meaning plain_need_of (card_of card.now.table) }
     requires group { group ≡ length (card_of card.now.table).group }
     requires lawful { Lawful (card_of card.now.table) }
-    ensures { (result.plain ≡ plain) × (result.group ≡ group) }
+    ensures meaning { ⟦<GroupFinder as Finder>⟧.meaning result ≡ card_meaning group_need_of (card_of card.now.table) }
+    ensures group { result.group ≡ group }
 {
     GroupFinder { plain, group }
 }
@@ -89,8 +92,7 @@ fn with_group(plain: PlainFinder, card: &FinishedCard, group: usize) -> GroupFin
 impl GroupFinder {
     // The group finder of a card's group and transform rows.
     pub fn new(card: &FinishedCard) -> GroupFinder
-        ensures length { result.plain.length.places ≡ (card_of card.now.table).len }
-        ensures rows { take result.plain.count result.plain.rows ≡ (card_of card.now.table).group ++ (card_of card.now.table).transform }
+        ensures meaning { ⟦<GroupFinder as Finder>⟧.meaning result ≡ card_meaning group_need_of (card_of card.now.table) }
         ensures group { result.group ≡ length (card_of card.now.table).group }
     {
         let group = card.section_rows(Section::Group).len();
@@ -99,7 +101,7 @@ impl GroupFinder {
 
     // The rows that concur.
     fn group_rows(&self) -> &[u64]
-        ensures value { result.now ≡ take self.now.group (take self.now.plain.count self.now.plain.rows) }
+        ensures value { result.now ≡ take self.now.group self.now.plain.rows }
         ensures count { length result.now ≡ self.now.group }
         ensures few { length result.now ≤ max_section_rows }
         ensures concur { Concur result.now }
@@ -109,8 +111,8 @@ impl GroupFinder {
 
     // The rows after them.
     fn other_rows(&self) -> &[u64]
-        ensures joined { take self.now.group (take self.now.plain.count self.now.plain.rows) ++ result.now ≡ take self.now.plain.count self.now.plain.rows }
-        ensures count { length result.now ≡ length (take self.now.plain.count self.now.plain.rows) - self.now.group }
+        ensures joined { take self.now.group self.now.plain.rows ++ result.now ≡ self.now.plain.rows }
+        ensures count { length result.now ≡ length self.now.plain.rows - self.now.group }
         ensures few { length result.now ≤ max_section_rows }
     {
         let rows = self.plain.rows();
@@ -118,20 +120,24 @@ impl GroupFinder {
     }
 }
 
+impl OfCard for GroupFinder {
+    ghost need_of = { group_need_of };
+
+    fn of_card(card: &FinishedCard) -> GroupFinder {
+        GroupFinder::new(card)
+    }
+}
+
 impl Finder for GroupFinder {
-    ghost span = { λ s. s.plain.length.places };
-
-    ghost rows = { λ s. take s.plain.count s.plain.rows };
-
-    ghost need = { λ s. group_need s.group (length (take s.plain.count s.plain.rows) - s.group) };
+    ghost meaning = { λ s. record { span = s.plain.span.places; rows = s.plain.rows; need = group_need s.group (length s.plain.rows - s.group) } };
 
     ghost lawful = { λ s.
-        let rows = take s.plain.count s.plain.rows in
+        let rows = s.plain.rows in
         let a = s.few.0 in
         let b = s.few.1 in
         let d = s.few.2 in
         let l : length rows ≡ s.group + (length rows - s.group) = omega arith in
-        group_lawful s.plain.length.places rows s.group (length rows - s.group) l s.plain.length.lawful (omega arith) s.plain.within };
+        group_lawful s.plain.span.places rows s.group (length rows - s.group) l s.plain.span.lawful (omega arith) s.plain.within };
 
     fn length(&self) -> WordLength {
         self.plain.length()

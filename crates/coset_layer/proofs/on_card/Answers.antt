@@ -25,7 +25,7 @@ returns g c =
       rows = λ span rows.
           let l = ap length rows ∙ length-append k.group k.transform in
           let few : length c.args.coset.now ≤ max_section_rows = omega arith in
-          let room : length (g.F.Finder.rows c.args.below) + length c.args.coset.now ≤ max_rows = omega arith in
+          let room : length (g.F.Finder.meaning c.args.below).rows + length c.args.coset.now ≤ max_rows = omega arith in
           let whole : Within k.len k.coset = last_within k.len k.transform k.coset (last_within k.len k.group (k.transform ++ k.coset) law.within) in
           c.two_layers.ensures.rows few room (subst (λ (n : ℕ). Within n c.args.coset.now) (sym span) (subst (λ (r : List ℕ). Within k.len r) (sym is) whole))
           ∙ ap₂ (λ (p q : List ℕ). p ++ q) rows is ∙ append_assoc k.group k.transform k.coset;

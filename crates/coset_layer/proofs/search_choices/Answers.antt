@@ -14,7 +14,7 @@ pub loop-choice-init : goal.loop-choice-init
 loop-choice-init g c =
     let h = c.in-Ok.ensures in
     let r = g.R.Reading in
-    let rows = g.F.Finder.rows c.args.below.now in
+    let rows = (g.F.Finder.meaning c.args.below.now).rows in
     let own = cut_to c.args.n c.args.own.now in
     let t = first_turn rows own (map r.weight c.args.word.now) (map r.weight c.search.new.word) (ap (map r.weight) h.same) c.in-Ok.found.message (r.weight c.in-Ok.found.reading) h.answer.is_best h.answer.weighs in
     (refl, refl, t.0, t.1)
@@ -27,7 +27,7 @@ search_negated-answer-requires g c =
 pub overflow_add-piled : goal.overflow_add-piled
 overflow_add-piled g c =
     let h = c.in-Ok-answer.ensures in
-    let rows = length (g.F.Finder.rows c.args.below.now) in
+    let rows = length (g.F.Finder.meaning c.args.below.now).rows in
     let own = length c.args.own.now in
     let p = c.requires in
     let room : own + rows ≤ 24 = (let e = p.count in let q = p.room in omega arith) in
@@ -41,7 +41,7 @@ loop-choice-preserved g c =
     let h = c.in-Ok.ensures in
     let a = c.in-Ok-answer.ensures.answer in
     let r = g.R.Reading in
-    let rows = g.F.Finder.rows c.args.below.now in
+    let rows = (g.F.Finder.meaning c.args.below.now).rows in
     let own = cut_to c.args.n c.args.own.now in
     let m = c.in-Ok-answer.found.message in
     let y = c.in-Ok-answer.found.reading in
@@ -70,7 +70,7 @@ pub returns : goal.returns
 returns g c =
     let h = c.in-Ok.ensures in
     let r = g.R.Reading in
-    let rows = g.F.Finder.rows c.args.below.now in
+    let rows = (g.F.Finder.meaning c.args.below.now).rows in
     let own = cut_to c.args.n c.args.own.now in
     let ml = length-map c.args.own.now (λ w. w % 2 ^ c.args.n) in
     let full : c.loop-choice.choice ≡ 2 ^ length own =

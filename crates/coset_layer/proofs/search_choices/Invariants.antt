@@ -7,8 +7,8 @@ use Rattle.coset_layer.proofs.search_choices.Given as goal
 abbrev pub invariant-loop-choice : goal.invariant-loop-choice
 invariant-loop-choice g l =
     let weight = g.R.Reading.weight in
-    let rows = g.F.Finder.rows l.below in
-    let need = g.F.Finder.need l.below in
+    let rows = (g.F.Finder.meaning l.below).rows in
+    let need = (g.F.Finder.meaning l.below).need in
     let all = agrees (rows ++ cut_to l.n l.own) (map weight l.initial.word) in
     (l.word ≡ l.initial.word)
     × (drop need l.work ≡ drop need l.initial.work)

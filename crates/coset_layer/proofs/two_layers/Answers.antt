@@ -14,6 +14,6 @@ returns g c =
       below = refl;
       lower = lower;
       upper = upper;
-      rows = λ few room within. ap₂ (λ (p q : List ℕ). pile_rows (g.F.Finder.span c.args.below) (pile_rows (g.F.Finder.span c.args.below) (g.F.Finder.rows c.args.below) p) q) lower upper
-          ∙ two_piles (g.F.Finder.span c.args.below) (g.F.Finder.rows c.args.below) coset few room within;
+      rows = λ few room within. ap₂ (λ (p q : List ℕ). pile_rows (g.F.Finder.meaning c.args.below).span (pile_rows (g.F.Finder.meaning c.args.below).span (g.F.Finder.meaning c.args.below).rows p) q) lower upper
+          ∙ two_piles (g.F.Finder.meaning c.args.below).span (g.F.Finder.meaning c.args.below).rows coset few room within;
     }

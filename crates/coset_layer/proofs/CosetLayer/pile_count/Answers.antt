@@ -6,4 +6,4 @@ pub returns : goal.returns
 returns g c =
     let s = c.args.self.now in
     ap₂ (λ (a b : ℕ). a + b) c.row_count.ensures (ap length c.own_rows.ensures.value)
-    ∙ sym (pile_count_lem (g.F.Finder.span s.below) (g.F.Finder.rows s.below) (take s.own.count s.own.rows))
+    ∙ sym (pile_count_lem (g.F.Finder.meaning s.below).span (g.F.Finder.meaning s.below).rows s.own)

@@ -6,16 +6,16 @@ use Rattle.coset_layer.proofs.CosetLayer.pile_row.Goals as goal
 pub returns-then-j-k : goal.returns-then-j-k
 returns-then-j-k g c =
     let s = c.args.self.now in
-    let rows = g.F.Finder.rows s.below in
+    let rows = (g.F.Finder.meaning s.below).rows in
     let l : c.args.j < length rows = omega (arith, c.row_count-k.ensures) in
-    below_row c.row.result rows (take s.own.count s.own.rows) (g.F.Finder.span s.below) c.args.j l c.row.ensures
+    below_row c.row.result rows s.own (g.F.Finder.meaning s.below).span c.args.j l c.row.ensures
 
 pub returns-then-i-own : goal.returns-then-i-own
 returns-then-i-own g c =
     let s = c.args.self.now in
-    let n = g.F.Finder.span s.below in
-    let rows = g.F.Finder.rows s.below in
-    let held = take s.own.count s.own.rows in
+    let n = (g.F.Finder.meaning s.below).span in
+    let rows = (g.F.Finder.meaning s.below).rows in
+    let held = s.own in
     let own = take (max_rows - length rows) held in
     let k : c.row_count-k.result ≡ length rows = c.row_count-k.ensures in
     let is = c.own_rows-own.ensures.value in
@@ -31,9 +31,9 @@ returns-then-i-own g c =
 pub returns-else-i-own : goal.returns-else-i-own
 returns-else-i-own g c =
     let s = c.args.self.now in
-    let n = g.F.Finder.span s.below in
-    let rows = g.F.Finder.rows s.below in
-    let held = take s.own.count s.own.rows in
+    let n = (g.F.Finder.meaning s.below).span in
+    let rows = (g.F.Finder.meaning s.below).rows in
+    let held = s.own in
     let k : c.row_count-k.result ≡ length rows = c.row_count-k.ensures in
     let ln = ap length c.own_rows-own.ensures.value in
     let count = pile_count_lem n rows held in

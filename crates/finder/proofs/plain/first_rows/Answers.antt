@@ -1,31 +1,37 @@
-use Rattle.std.proofs.Common.{ℕ, List, length, take, sym, ap, ◌∙◌, subst, arith}
+use Rattle.std.proofs.Common.{◌≡◌, ℕ, ◌+◌, ◌-◌, ◌≤◌, List, refl, length, take, sym, ap, ap₂, ◌∙◌, subst, arith}
+use Rattle.std.proofs.lemmas.List.{take_all, length-take}
 use Rattle.card.specs.Rows.{Within}
+use Rattle.card.specs.Cards.{Card, Lawful, rows_of}
 use Rattle.card.specs.Tables.{card_of}
-use Rattle.finder.proofs.CardRows.{first_two, first_fit, first_few, first_within}
+use Rattle.finder.specs.Search.{Meaning}
+use Rattle.finder.proofs.CardRows.{first_two, first_few, first_within}
 use Rattle.finder.proofs.plain.first_rows.Goals as goal
 
-pub table_of-requires : goal.table_of-requires
-table_of-requires c =
-    let k = card_of c.args.card.now.table in
-    let f = first_fit k c.args.count c.requires in
-    let e = ap length c.rows.ensures.value in
-    (omega arith, first_few k c.args.count c.requires c.rows.ensures.lawful)
+-- the table holds the first rows of the card
+taken : (k : Card) (count : ℕ) (all held : List ℕ) → count ≡ length k.group + length k.transform → Lawful k → all ≡ rows_of k → held ≡ take 16 (take (count - 0) all) → held ≡ take count (rows_of k)
+taken k count all held is law same h =
+    let s : count - 0 ≡ count = omega arith in
+    let few = first_few k count is law in
+    let t = length-take (count - 0) all in
+    h ∙ take_all 16 (take (count - 0) all) (omega arith) ∙ ap₂ (λ (n : ℕ) (l : List ℕ). take n l) s same
 
 pub invariant_of-result : goal.invariant_of-result
 invariant_of-result c =
     let k = card_of c.args.card.now.table in
-    let is = c.table_of.ensures ∙ ap (take c.args.count) c.rows.ensures.value in
+    let law = c.rows.ensures.lawful in
+    let is = taken k c.args.count c.rows.result.now c.first_of.result c.requires law c.rows.ensures.value c.first_of.ensures in
+    let t = length-take c.args.count (rows_of k) in
+    let few = first_few k c.args.count c.requires law in
+    let l = ap length is in
     record {
-      few = first_few k c.args.count c.requires c.rows.ensures.lawful;
+      few = omega arith;
       within =
-          subst (λ (n : ℕ). Within n (take c.args.count c.table_of.result)) (sym c.word_length.ensures.value)
-          (subst (λ (l : List ℕ). Within k.len l) (sym is) (first_within k c.args.count c.requires c.rows.ensures.lawful));
+          subst (λ (n : ℕ). Within n c.first_of.result) (sym c.word_length.ensures.value)
+          (subst (λ (l : List ℕ). Within k.len l) (sym is) (first_within k c.args.count c.requires law));
     }
 
 pub returns : goal.returns
 returns c =
     let k = card_of c.args.card.now.table in
-    record {
-      length = c.word_length.ensures.value;
-      rows = c.table_of.ensures ∙ ap (take c.args.count) c.rows.ensures.value ∙ first_two k c.args.count c.requires;
-    }
+    let is = taken k c.args.count c.rows.result.now c.first_of.result c.requires c.rows.ensures.lawful c.rows.ensures.value c.first_of.ensures ∙ first_two k c.args.count c.requires in
+    rw (is, c.word_length.ensures.value) refl

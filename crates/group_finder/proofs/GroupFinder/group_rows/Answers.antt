@@ -6,7 +6,7 @@ use Rattle.group_finder.proofs.GroupFinder.group_rows.Goals as goal
 pub returns : goal.returns
 returns c =
     let s = c.args.self.now in
-    let rows = take s.plain.count s.plain.rows in
+    let rows = s.plain.rows in
     let z : s.group - 0 ≡ s.group = omega arith in
     let is = ap₂ (λ (j : ℕ) (l : List ℕ). take j l) z c.rows.ensures.value in
     let few = s.few.0 in

@@ -5,7 +5,7 @@ use Rattle.group_finder.proofs.GroupFinder.other_rows.Goals as goal
 pub returns : goal.returns
 returns c =
     let s = c.args.self.now in
-    let rows = take s.plain.count s.plain.rows in
+    let rows = s.plain.rows in
     let v = c.rows-rows.ensures.value in
     let few = s.few.2 in
     let d = length-drop s.group rows in
