@@ -4,7 +4,6 @@ ghost use Rattle.std.specs.Prelude.{◌≡◌, ℕ, ◌+◌, ◌-◌, ◌*◌, �
 ghost use Rattle.std.specs.List.{AllByRecursion};
 ghost use Rattle.card.specs.Cards.{Lawful, rows_of, max_section_rows};
 ghost use Rattle.card.specs.Rows.{Within};
-ghost use Rattle.card.specs.Tables.{card_of};
 ghost use Rattle.code.specs.Limits.{max_places, max_rows, sum_limit};
 ghost use Rattle.code.specs.Words.{Best, agrees, codeword, negated_at};
 ghost use Rattle.finder.specs.Search.{Answered, Refused, refusal};
@@ -173,13 +172,13 @@ fn two_layers<F: Finder>(below: F, coset: &[u64]) -> CosetLayer<CosetLayer<F>>
 
 // The two layers of a card's coset rows.
 fn on_card<F: Finder>(below: F, card: &FinishedCard, coset: &[u64]) -> CosetLayer<CosetLayer<F>>
-    requires coset { coset.now ≡ (card_of card.now.table).coset }
-    requires lawful { Lawful (card_of card.now.table) }
+    requires coset { coset.now ≡ card.now.coset }
+    requires lawful { Lawful card.now }
     ensures below { result.below.below ≡ below }
-    ensures lower { result.below.own ≡ take layer_rows (card_of card.now.table).coset }
-    ensures upper { result.own ≡ take layer_rows (drop layer_rows (card_of card.now.table).coset) }
-    ensures rows { (F.Finder.meaning below).span ≡ (card_of card.now.table).len → (F.Finder.meaning below).rows ≡ (card_of card.now.table).group ++ (card_of card.now.table).transform
-        → (layer_meaning (layer_meaning F.Finder.meaning) result).rows ≡ rows_of (card_of card.now.table) }
+    ensures lower { result.below.own ≡ take layer_rows card.now.coset }
+    ensures upper { result.own ≡ take layer_rows (drop layer_rows card.now.coset) }
+    ensures rows { (F.Finder.meaning below).span ≡ card.now.len → (F.Finder.meaning below).rows ≡ card.now.group ++ card.now.transform
+        → (layer_meaning (layer_meaning F.Finder.meaning) result).rows ≡ rows_of card.now }
 {
     two_layers(below, coset)
 }
@@ -188,10 +187,10 @@ fn on_card<F: Finder>(below: F, card: &FinishedCard, coset: &[u64]) -> CosetLaye
 // Where the finder has the length and the group and transform rows of the card, the rows of the whole are the card's, in their order.
 pub fn card_layers<F: Finder>(below: F, card: &FinishedCard) -> CosetLayer<CosetLayer<F>>
     ensures below { result.below.below ≡ below }
-    ensures lower { result.below.own ≡ take layer_rows (card_of card.now.table).coset }
-    ensures upper { result.own ≡ take layer_rows (drop layer_rows (card_of card.now.table).coset) }
-    ensures rows { (F.Finder.meaning below).span ≡ (card_of card.now.table).len → (F.Finder.meaning below).rows ≡ (card_of card.now.table).group ++ (card_of card.now.table).transform
-        → (layer_meaning (layer_meaning F.Finder.meaning) result).rows ≡ rows_of (card_of card.now.table) }
+    ensures lower { result.below.own ≡ take layer_rows card.now.coset }
+    ensures upper { result.own ≡ take layer_rows (drop layer_rows card.now.coset) }
+    ensures rows { (F.Finder.meaning below).span ≡ card.now.len → (F.Finder.meaning below).rows ≡ card.now.group ++ card.now.transform
+        → (layer_meaning (layer_meaning F.Finder.meaning) result).rows ≡ rows_of card.now }
 {
     on_card(below, card, card.section_rows(Section::Coset))
 }

@@ -15,7 +15,7 @@ const COLUMN_ROWS: usize = 16;
 
 // For each place of a word the number whose digit j is the digit of row j there, of at most the first 16 rows.
 pub fn columns(rows: &[u64], length: WordLength) -> [usize; 64]
-    ensures { (i : ℕ) → i < length.places → slice_index result i ≡ column (take column_rows rows.now) i }
+    ensures { (i : ℕ) → i < length → slice_index result i ≡ column (take column_rows rows.now) i }
 {
     all_columns(rows, length.places())
 }
@@ -120,8 +120,8 @@ pub fn fold<R: Reading>(
     work: &mut [R],
 ) -> Result<(), Refusal>
     ensures { MatchResult result
-        (λ _. Folded R.Reading length.places need slots.now word.now work.old work.new)
-        (λ e. Refused R.Reading.size length.places need word.now work.old work.new e) }
+        (λ _. Folded R.Reading length need slots.now word.now work.old work.new)
+        (λ e. Refused R.Reading.size length need word.now work.old work.new e) }
 {
     fold_checked(word, length.places(), slots, need, work)
 }

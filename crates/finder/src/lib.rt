@@ -21,7 +21,7 @@ pub trait Finder {
 
     // The number of places of a word.
     fn length(&self) -> WordLength
-        ensures { result.places ≡ (meaning self.now).span };
+        ensures { result ≡ (meaning self.now).span };
 
     fn row_count(&self) -> usize
         ensures { result ≡ length (meaning self.now).rows };

@@ -1,6 +1,5 @@
 ghost use Rattle.std.specs.Prelude.{◌≡◌, ℕ};
 ghost use Rattle.card.specs.Cards.{Card};
-ghost use Rattle.card.specs.Tables.{card_of};
 ghost use Rattle.finder.specs.OfCard.{card_meaning, plain_need_of};
 
 use crate::Finder;
@@ -12,7 +11,7 @@ pub trait OfCard: Finder {
     ghost need_of: { Card → ℕ };
 
     fn of_card(card: &FinishedCard) -> Self
-        ensures { Self.meaning result ≡ card_meaning need_of (card_of card.now.table) };
+        ensures { Self.meaning result ≡ card_meaning need_of card.now };
 }
 
 impl OfCard for PlainFinder {

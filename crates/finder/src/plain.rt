@@ -1,7 +1,7 @@
 ghost use Rattle.std.specs.Prelude.{◌≡◌, ◌+◌, ◌^◌, ◌<◌, ◌≤◌, ◌++◌, map, length, take, MatchOption, MatchResult, slice_index};
+ghost use Rattle.code.specs.Limits.{Length};
 ghost use Rattle.code.specs.Words.{Top};
 ghost use Rattle.card.specs.Rows.{Within};
-ghost use Rattle.card.specs.Tables.{card_of};
 ghost use Rattle.hadamard.specs.Transform.{weight_at};
 ghost use Rattle.finder.specs.Search.{Answered, Refused};
 ghost use Rattle.finder.specs.Fold.{column_rows};
@@ -25,8 +25,9 @@ use reading::Reading;
 pub struct PlainFinder {
     span: WordLength,
     rows: Rows<16>,
+    ghost sized: { Length span },
     ghost few: { length rows ≤ column_rows },
-    ghost within: { Within span.places rows },
+    ghost within: { Within span rows },
 }
 
 // The first entry of the greatest weight.
@@ -72,11 +73,12 @@ fn search_rows<R: Reading>(
     word: &[R],
     work: &mut [R],
 ) -> Result<Found<R>, Refusal>
+    requires sized { Length span }
     requires few { length rows.now ≤ column_rows }
     requires room { need ≡ 2 ^ length rows.now }
     ensures { MatchResult result
-        (Answered R.Reading (record { span = span.places; rows = rows.now; need = need }) word.now work.old work.new)
-        (λ e. Refused R.Reading.size span.places need word.now work.old work.new e) }
+        (Answered R.Reading (record { span = span; rows = rows.now; need = need }) word.now work.old work.new)
+        (λ e. Refused R.Reading.size span need word.now work.old work.new e) }
 {
     let slots = columns(rows, span);
     match fold(word, span, &slots, need, work) {
@@ -91,8 +93,8 @@ fn search_rows<R: Reading>(
 
 // The plain finder of the first `count` rows of a card, which are those of its group and transform sections.
 fn first_rows(card: &FinishedCard, count: usize) -> PlainFinder
-    requires { count ≡ length (card_of card.now.table).group + length (card_of card.now.table).transform }
-    ensures { ⟦<PlainFinder as Finder>⟧.meaning result ≡ card_meaning plain_need_of (card_of card.now.table) }
+    requires { count ≡ length card.now.group + length card.now.transform }
+    ensures { ⟦<PlainFinder as Finder>⟧.meaning result ≡ card_meaning plain_need_of card.now }
 {
     PlainFinder {
         span: card.word_length(),
@@ -103,7 +105,7 @@ fn first_rows(card: &FinishedCard, count: usize) -> PlainFinder
 impl PlainFinder {
     // The plain finder of a card's group and transform rows.
     pub fn new(card: &FinishedCard) -> PlainFinder
-        ensures { ⟦<PlainFinder as Finder>⟧.meaning result ≡ card_meaning plain_need_of (card_of card.now.table) }
+        ensures { ⟦<PlainFinder as Finder>⟧.meaning result ≡ card_meaning plain_need_of card.now }
     {
         let group = card.section_rows(Section::Group).len();
         let transform = card.section_rows(Section::Transform).len();
@@ -120,9 +122,9 @@ impl PlainFinder {
 }
 
 impl Finder for PlainFinder {
-    ghost meaning = { λ s. record { span = s.span.places; rows = s.rows; need = 2 ^ length s.rows } };
+    ghost meaning = { λ s. record { span = s.span; rows = s.rows; need = 2 ^ length s.rows } };
 
-    ghost lawful = { λ s. plain_lawful s.span.places s.rows s.span.lawful s.few s.within };
+    ghost lawful = { λ s. plain_lawful s.span s.rows s.sized s.few s.within };
 
     fn length(&self) -> WordLength {
         self.span

@@ -6,7 +6,6 @@ mod slots;
 ghost use Rattle.std.specs.Prelude.{◌≡◌, ℕ, ◌+◌, ◌-◌, ◌^◌, ◌≤◌, ◌++◌, map, length, take, MatchResult};
 ghost use Rattle.card.specs.Cards.{Lawful, max_section_rows};
 ghost use Rattle.card.specs.Rows.{Concur};
-ghost use Rattle.card.specs.Tables.{card_of};
 ghost use Rattle.finder.specs.Search.{Answered, Refused};
 ghost use Rattle.finder.specs.OfCard.{card_meaning, plain_need_of};
 ghost use Rattle.group_finder.specs.Choices.{group_need, group_need_of};
@@ -63,8 +62,8 @@ fn search_group<R: Reading>(
     requires concur { Concur group.now }
     requires room { need ≡ group_need (length group.now) (length others.now) }
     ensures { MatchResult result
-        (Answered R.Reading (record { span = places.places; rows = group.now ++ others.now; need = need }) word.now work.old work.new)
-        (Refused R.Reading.size places.places need word.now work.old work.new) }
+        (Answered R.Reading (record { span = places; rows = group.now ++ others.now; need = need }) word.now work.old work.new)
+        (Refused R.Reading.size places need word.now work.old work.new) }
 {
     let span = choice_count(others.len());
     let slots = group_slots(group, others, places, span);
@@ -80,10 +79,10 @@ fn search_group<R: Reading>(
 
 // The group finder of the plain finder's rows, the first `group` of which are the card's group.
 fn with_group(plain: PlainFinder, card: &FinishedCard, group: usize) -> GroupFinder
-    requires plain { ⟦<PlainFinder as Finder>⟧.meaning plain ≡ card_meaning plain_need_of (card_of card.now.table) }
-    requires group { group ≡ length (card_of card.now.table).group }
-    requires lawful { Lawful (card_of card.now.table) }
-    ensures meaning { ⟦<GroupFinder as Finder>⟧.meaning result ≡ card_meaning group_need_of (card_of card.now.table) }
+    requires plain { ⟦<PlainFinder as Finder>⟧.meaning plain ≡ card_meaning plain_need_of card.now }
+    requires group { group ≡ length card.now.group }
+    requires lawful { Lawful card.now }
+    ensures meaning { ⟦<GroupFinder as Finder>⟧.meaning result ≡ card_meaning group_need_of card.now }
     ensures group { result.group ≡ group }
 {
     GroupFinder { plain, group }
@@ -92,8 +91,8 @@ fn with_group(plain: PlainFinder, card: &FinishedCard, group: usize) -> GroupFin
 impl GroupFinder {
     // The group finder of a card's group and transform rows.
     pub fn new(card: &FinishedCard) -> GroupFinder
-        ensures meaning { ⟦<GroupFinder as Finder>⟧.meaning result ≡ card_meaning group_need_of (card_of card.now.table) }
-        ensures group { result.group ≡ length (card_of card.now.table).group }
+        ensures meaning { ⟦<GroupFinder as Finder>⟧.meaning result ≡ card_meaning group_need_of card.now }
+        ensures group { result.group ≡ length card.now.group }
     {
         let group = card.section_rows(Section::Group).len();
         with_group(PlainFinder::new(card), card, group)
@@ -129,7 +128,7 @@ impl OfCard for GroupFinder {
 }
 
 impl Finder for GroupFinder {
-    ghost meaning = { λ s. record { span = s.plain.span.places; rows = s.plain.rows; need = group_need s.group (length s.plain.rows - s.group) } };
+    ghost meaning = { λ s. record { span = s.plain.span; rows = s.plain.rows; need = group_need s.group (length s.plain.rows - s.group) } };
 
     ghost lawful = { λ s.
         let rows = s.plain.rows in
@@ -137,7 +136,7 @@ impl Finder for GroupFinder {
         let b = s.few.1 in
         let d = s.few.2 in
         let l : length rows ≡ s.group + (length rows - s.group) = omega arith in
-        group_lawful s.plain.span.places rows s.group (length rows - s.group) l s.plain.span.lawful (omega arith) s.plain.within };
+        group_lawful s.plain.span rows s.group (length rows - s.group) l s.plain.span.lawful (omega arith) s.plain.within };
 
     fn length(&self) -> WordLength {
         self.plain.length()

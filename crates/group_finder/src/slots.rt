@@ -45,12 +45,12 @@ pub(crate) fn group_slots(
 ) -> [usize; 64]
     requires few { (length group.now ≤ max_section_rows) × (length others.now ≤ max_section_rows) × (span ≡ 2 ^ length others.now) }
     requires concurs { (i : ℕ) → Concurs (length group.now) (column group.now i) }
-    ensures slots { (i : ℕ) → i < places.places → Slotted (length group.now) (column group.now i) (slice_index result i / span) }
-    ensures entries { (i : ℕ) → i < places.places → slice_index result i ≡ slice_index result i / span * span + column others.now i }
+    ensures slots { (i : ℕ) → i < places → Slotted (length group.now) (column group.now i) (slice_index result i / span) }
+    ensures entries { (i : ℕ) → i < places → slice_index result i ≡ slice_index result i / span * span + column others.now i }
 {
     let groups = columns(group, places);
     let mut slots = columns(others, places);
-    for i in 0..places.places() {
+    for i in 0..places() {
         let slot = slot_of(groups[i], group.len());
         slots[i] = slot * span + slots[i];
     }

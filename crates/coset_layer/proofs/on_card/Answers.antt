@@ -4,14 +4,13 @@ use Rattle.code.specs.declared.refusal.Section.TheVariants.{Group, Transform, Co
 use Rattle.code.specs.Limits.{max_rows}
 use Rattle.card.specs.Cards.{max_section_rows}
 use Rattle.card.specs.Rows.{Within}
-use Rattle.card.specs.Tables.{card_of}
 use Rattle.coset_layer.specs.Pile.{layer_rows}
 use Rattle.coset_layer.specs.Piles.{last_within}
 use Rattle.coset_layer.proofs.on_card.Goals as goal
 
 pub returns : goal.returns
 returns g c =
-    let k = card_of c.args.card.now.table in
+    let k = c.args.card.now in
     let is = c.requires.coset in
     let lc = ap length is in
     let law = c.requires.lawful in

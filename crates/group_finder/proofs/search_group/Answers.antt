@@ -18,7 +18,7 @@ group_slots-slots-requires g c =
 pub slice_bounds-lists-end : goal.slice_bounds-lists-end
 slice_bounds-lists-end g c =
     let t = c.in-Ok.ensures.taken in
-    let f = (taken_facts c.args.places.places c.args.need (map g.R.Reading.size c.args.word.now) (length c.args.work.now) t).2 in
+    let f = (taken_facts c.args.places c.args.need (map g.R.Reading.size c.args.word.now) (length c.args.work.now) t).2 in
     let k = c.fold.auto.work in
     omega arith
 
@@ -35,7 +35,7 @@ over_choices-requires g c =
     let p = pow_pos (length others) in
     let u : 2 ^ length others ≤ 2 ^ 8 = pow_mono f1 in
     let folded = c.in-Ok.ensures in
-    let facts = (taken_facts c.args.places.places k (map z c.args.word.now) (length c.args.work.now) folded.taken).2 in
+    let facts = (taken_facts c.args.places k (map z c.args.word.now) (length c.args.work.now) folded.taken).2 in
     let kept = c.fold.auto.work in
     let s : k - 0 ≡ k = omega arith in
     let room : k ≡ (length group + 2) * span = c.requires.room ∙ ap (λ (x : ℕ). (length group + 2) * x) (sym is) in
@@ -55,7 +55,7 @@ returns-in-Ok g c =
     let work = c.args.work.now in
     let group = c.args.group.now in
     let others = c.args.others.now in
-    let n = c.args.places.places in
+    let n = c.args.places in
     let k = c.args.need in
     let mid = c.fold.new.work in
     let final = c.transform_parts.new.lists in

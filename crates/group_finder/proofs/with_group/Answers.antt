@@ -2,13 +2,12 @@ use Rattle.std.proofs.Common.{◌≡◌, ℕ, ◌-◌, List, ◌++◌, length, t
 use Rattle.std.proofs.lemmas.List.{length-append, take_at}
 use Rattle.code.specs.declared.refusal.Section.TheVariants.{Group, Transform}
 use Rattle.card.specs.Rows.{Concur}
-use Rattle.card.specs.Tables.{card_of}
 use Rattle.finder.specs.Search.{Meaning}
 use Rattle.group_finder.proofs.with_group.Goals as goal
 
 pub invariant_of-result : goal.invariant_of-result
 invariant_of-result c =
-    let k = card_of c.args.card.now.table in
+    let k = c.args.card.now in
     let rows = c.args.plain.rows in
     let is : rows ≡ k.group ++ k.transform = ap (λ (m : Meaning). m.rows) c.requires.plain in
     let l = ap length is ∙ length-append k.group k.transform in
@@ -20,10 +19,10 @@ invariant_of-result c =
 
 pub returns-clause-meaning : goal.returns-clause-meaning
 returns-clause-meaning c =
-    let k = card_of c.args.card.now.table in
+    let k = c.args.card.now in
     let rows = c.args.plain.rows in
     let is : rows ≡ k.group ++ k.transform = ap (λ (m : Meaning). m.rows) c.requires.plain in
-    let span : c.args.plain.span.places ≡ k.len = ap (λ (m : Meaning). m.span) c.requires.plain in
+    let span : c.args.plain.span ≡ k.len = ap (λ (m : Meaning). m.span) c.requires.plain in
     let l = length-append k.group k.transform in
     let others : length (k.group ++ k.transform) - length k.group ≡ length k.transform = omega arith in
     rw (span, is, c.requires.group, others) refl

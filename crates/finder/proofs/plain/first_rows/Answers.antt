@@ -1,8 +1,8 @@
 use Rattle.std.proofs.Common.{◌≡◌, ℕ, ◌+◌, ◌-◌, ◌≤◌, List, refl, length, take, sym, ap, ap₂, ◌∙◌, subst, arith}
 use Rattle.std.proofs.lemmas.List.{take_all, length-take}
+use Rattle.code.specs.Limits.{Length}
 use Rattle.card.specs.Rows.{Within}
 use Rattle.card.specs.Cards.{Card, Lawful, rows_of}
-use Rattle.card.specs.Tables.{card_of}
 use Rattle.finder.specs.Search.{Meaning}
 use Rattle.finder.proofs.CardRows.{first_two, first_few, first_within}
 use Rattle.finder.proofs.plain.first_rows.Goals as goal
@@ -17,13 +17,14 @@ taken k count all held is law same h =
 
 pub invariant_of-result : goal.invariant_of-result
 invariant_of-result c =
-    let k = card_of c.args.card.now.table in
+    let k = c.args.card.now in
     let law = c.rows.ensures.lawful in
     let is = taken k c.args.count c.rows.result.now c.first_of.result c.requires law c.rows.ensures.value c.first_of.ensures in
     let t = length-take c.args.count (rows_of k) in
     let few = first_few k c.args.count c.requires law in
     let l = ap length is in
     record {
+      sized = subst Length (sym c.word_length.ensures.value) law.sized;
       few = omega arith;
       within =
           subst (λ (n : ℕ). Within n c.first_of.result) (sym c.word_length.ensures.value)
@@ -32,6 +33,6 @@ invariant_of-result c =
 
 pub returns : goal.returns
 returns c =
-    let k = card_of c.args.card.now.table in
+    let k = c.args.card.now in
     let is = taken k c.args.count c.rows.result.now c.first_of.result c.requires c.rows.ensures.lawful c.rows.ensures.value c.first_of.ensures ∙ first_two k c.args.count c.requires in
     rw (is, c.word_length.ensures.value) refl

@@ -15,14 +15,14 @@ use Rattle.finder.proofs.plain.search_rows.Goals as goal
 pub slice_bounds-list-end : goal.slice_bounds-list-end
 slice_bounds-list-end g c =
     let t = c.in-Ok.ensures.taken in
-    let f = (taken_facts c.args.span.places c.args.need (map g.R.Reading.size c.args.word.now) (length c.args.work.now) t).2 in
+    let f = (taken_facts c.args.span c.args.need (map g.R.Reading.size c.args.word.now) (length c.args.work.now) t).2 in
     let k = c.fold.auto.work in
     omega arith
 
 pub first_largest-requires : goal.first_largest-requires
 first_largest-requires g c =
     let t = c.in-Ok.ensures.taken in
-    let f = (taken_facts c.args.span.places c.args.need (map g.R.Reading.size c.args.word.now) (length c.args.work.now) t).2 in
+    let f = (taken_facts c.args.span c.args.need (map g.R.Reading.size c.args.word.now) (length c.args.work.now) t).2 in
     let k = c.fold.auto.work in
     let long = c.transform.auto.list ∙ length-take-le (c.args.need - 0) c.fold.new.work (omega arith) in
     let p = pow_pos (length c.args.rows.now) in
@@ -37,7 +37,7 @@ returns-in-Ok g c =
     let rows = c.args.rows.now in
     let word = c.args.word.now in
     let work = c.args.work.now in
-    let n = c.args.span.places in
+    let n = c.args.span in
     let k = c.args.need in
     let mid = c.fold.new.work in
     let final = c.transform.new.list in
@@ -53,7 +53,7 @@ returns-in-Ok g c =
     let is : list ≡ take k mid = ap (λ (j : ℕ). take j mid) s in
     let long : length list ≡ k = length-take-le (k - 0) mid (omega arith) ∙ s in
     let room : length list ≡ 2 ^ length rows = long ∙ c.requires.room in
-    let most = c.args.span.lawful.1 in
+    let most = c.requires.sized.1 in
     let small : sum_by z list ≤ sum_limit = (let t = folded.total in let u = ap (sum_by z) is in omega arith) in
     let done : Transformed w z list final = transform_taken c.transform.result (Transformed w z list final) (λ _. final ≡ list) (length list) (sum_by z list) (length rows) c.requires.few room small c.transform.ensures.value c.transform.ensures.list in
     let same = holds_agreements w z rows c.columns-slots.result word list final c.requires.few room (λ i l. c.columns-slots.ensures i (omega arith))
