@@ -38,10 +38,10 @@ fn first_largest<R: Reading>(list: &[R]) -> Found<R>
         message: 0,
         reading: list[0],
     };
-    for i in 1..list.len() {
+    for (i, reading) in list[1..].iter().enumerate() {
         let next = Found {
-            message: i as u32,
-            reading: list[i],
+            message: i as u32 + 1,
+            reading: *reading,
         };
         best = best.or_heavier(next);
     }
@@ -54,13 +54,6 @@ fn message_count(rows: usize) -> usize
     ensures { result ≡ 2 ^ rows }
 {
     1usize << rows
-}
-
-// Row j, or none for a number beyond the last.
-fn row_at(rows: &[u64], j: usize) -> Option<u64>
-    ensures { MatchOption result (length rows.now ≤ j) (λ w. (j < length rows.now) × (w ≡ slice_index rows.now j)) }
-{
-    if j < rows.len() { Some(rows[j]) } else { None }
 }
 
 // Folds the word by the columns of the rows, transforms the list and takes its first largest entry.
@@ -78,14 +71,10 @@ fn search_rows<R: Reading>(
         (λ e. Refused R.Reading.size span.places need word.now work.old work.new e) }
 {
     let slots = columns(rows, span);
-    match fold(word, span, &slots, need, work) {
-        Ok(()) => {
-            let list = &mut work[0..need];
-            let _ = transform(list);
-            Ok(first_largest(list))
-        }
-        Err(refusal) => Err(refusal),
-    }
+    fold(word, span, &slots, need, work)?;
+    let list = &mut work[0..need];
+    let _ = transform(list);
+    Ok(first_largest(list))
 }
 
 // A table that begins with the first `count` of the rows.
@@ -152,7 +141,7 @@ impl Finder for PlainFinder {
     }
 
     fn row(&self, j: usize) -> Option<u64> {
-        row_at(self.rows(), j)
+        self.rows().get(j).copied()
     }
 
     fn need(&self) -> usize {

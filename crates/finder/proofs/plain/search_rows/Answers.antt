@@ -14,14 +14,14 @@ use Rattle.finder.proofs.plain.search_rows.Goals as goal
 
 pub slice_bounds-list-end : goal.slice_bounds-list-end
 slice_bounds-list-end g c =
-    let t = c.in-Ok.ensures.taken in
+    let t = c.in_ok-fold.ensures.taken in
     let f = (taken_facts c.args.span.places c.args.need (map g.R.Reading.size c.args.word.now) (length c.args.work.now) t).2 in
     let k = c.fold.auto.work in
     omega arith
 
 pub first_largest-requires : goal.first_largest-requires
 first_largest-requires g c =
-    let t = c.in-Ok.ensures.taken in
+    let t = c.in_ok-fold.ensures.taken in
     let f = (taken_facts c.args.span.places c.args.need (map g.R.Reading.size c.args.word.now) (length c.args.work.now) t).2 in
     let k = c.fold.auto.work in
     let long = c.transform.auto.list ∙ length-take-le (c.args.need - 0) c.fold.new.work (omega arith) in
@@ -30,8 +30,8 @@ first_largest-requires g c =
     let r = c.requires.room in
     (omega arith, omega arith)
 
-pub returns-in-Ok : goal.returns-in-Ok
-returns-in-Ok g c =
+pub returns : goal.returns
+returns g c =
     let w = g.R.Reading.weight in
     let z = g.R.Reading.size in
     let rows = c.args.rows.now in
@@ -41,7 +41,7 @@ returns-in-Ok g c =
     let k = c.args.need in
     let mid = c.fold.new.work in
     let final = c.transform.new.list in
-    let folded = c.in-Ok.ensures in
+    let folded = c.in_ok-fold.ensures in
     let facts = taken_facts n k (map z word) (length work) folded.taken in
     let f0 = facts.0 in
     let f2 = facts.2 in
