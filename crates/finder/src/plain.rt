@@ -60,20 +60,19 @@ fn message_count(rows: usize) -> usize
 fn search_rows<R: Reading>(
     rows: &[u64],
     span: WordLength,
-    need: usize,
     word: &[R],
     work: &mut [R],
 ) -> Result<Found<R>, Refusal>
-    requires few { length rows.now ≤ column_rows }
-    requires room { need ≡ 2 ^ length rows.now }
+    requires { length rows.now ≤ column_rows }
     ensures { MatchResult result
-        (λ f. Answered R.Reading.weight R.Reading.size span.places rows.now need word.now work.old work.new f.message f.reading)
-        (λ e. Refused R.Reading.size span.places need word.now work.old work.new e) }
+        (λ f. Answered R.Reading.weight R.Reading.size span.places rows.now (2 ^ length rows.now) word.now work.old work.new f.message f.reading)
+        (λ e. Refused R.Reading.size span.places (2 ^ length rows.now) word.now work.old work.new e) }
 {
+    let need = message_count(rows.len());
     let slots = columns(rows, span);
     fold(word, span, &slots, need, work)?;
     let list = &mut work[0..need];
-    let _ = transform(list);
+    transform(list).unwrap();
     Ok(first_largest(list))
 }
 
@@ -149,6 +148,6 @@ impl Finder for PlainFinder {
     }
 
     fn search<R: Reading>(&self, word: &mut [R], work: &mut [R]) -> Result<Found<R>, Refusal> {
-        search_rows(self.rows(), self.length, self.need(), word, work)
+        search_rows(self.rows(), self.length, word, work)
     }
 }
