@@ -19,9 +19,9 @@ cut_to n rows = map (λ w. w % 2 ^ n) rows
 abbrev pub pile_rows : ℕ → List ℕ → List ℕ → List ℕ
 pile_rows n below own = below ++ cut_to n (take (max_rows - length below) own)
 
--- a finder of the same length and need with more rows after its own
+-- a finder of the same length and need with more rows after its own, read within the length
 abbrev pub above : Meaning → List ℕ → Meaning
-above by rows = record { span = by.span; rows = by.rows ++ rows; need = by.need }
+above by rows = record { span = by.span; rows = by.rows ++ cut_to by.span rows; need = by.need }
 
 -- what a layer that holds `own` means, above a finder that means `below`
 abbrev pub piled : Meaning → List ℕ → Meaning

@@ -90,41 +90,31 @@ fn search_negated<R: Reading, F: Finder>(
     found
 }
 
-// Searches below for each choice of the layer's own rows; n is the length below and k the number of rows there.
+// Searches below for each choice of the layer's own rows.
 fn search_choices<R: Reading, F: Finder>(
     below: &F,
     own: &[u64],
-    n: usize,
-    k: usize,
     word: &mut [R],
     work: &mut [R],
 ) -> Result<Found<R>, Refusal>
-    requires span { n ≡ (F.Finder.meaning below.now).span }
-    requires count { k ≡ length (F.Finder.meaning below.now).rows }
     requires few { length own.now ≤ layer_rows }
-    requires room { length own.now + k ≤ max_rows }
+    requires room { length own.now + length (F.Finder.meaning below.now).rows ≤ max_rows }
     ensures same { word.new ≡ word.old }
     ensures answer { MatchResult result
-        (Answered R.Reading (above (F.Finder.meaning below.now) (cut_to n own.now)) word.old work.old work.new)
+        (Answered R.Reading (above (F.Finder.meaning below.now) own.now) word.old work.old work.new)
         (Refused R.Reading.size (F.Finder.meaning below.now).span (F.Finder.meaning below.now).need word.old work.old work.new) }
 {
-    let mut best = match below.search(word, work) {
-        Ok(found) => found,
-        Err(refusal) => return Err(refusal),
-    };
+    let n = below.length().places();
+    let k = below.row_count();
+    let mut best = below.search(word, work)?;
     for choice in 1..1u32 << own.len() {
         let mask = first_digits(word_of(own, choice as u64), n);
-        let answer = search_negated(below, mask, word, work);
-        match answer {
-            Ok(found) => {
-                let piled = Found {
-                    message: found.message + (choice << k),
-                    reading: found.reading,
-                };
-                best = best.or_heavier(piled);
-            }
-            Err(refusal) => return Err(refusal),
-        }
+        let found = search_negated(below, mask, word, work)?;
+        let piled = Found {
+            message: found.message + (choice << k),
+            reading: found.reading,
+        };
+        best = best.or_heavier(piled);
     }
     Ok(best)
 }
@@ -151,26 +141,7 @@ fn check_row(n: usize, k: usize, count: usize, row: u64) -> Result<(), Refusal>
     Ok(())
 }
 
-// The layer of a card's first four coset rows, and above it that of the others.
-fn two_layers<F: Finder>(below: F, coset: &[u64]) -> CosetLayer<CosetLayer<F>>
-    ensures below { result.below.below ≡ below }
-    ensures lower { result.below.own ≡ take layer_rows coset.now }
-    ensures upper { result.own ≡ take layer_rows (drop layer_rows coset.now) }
-    ensures rows { length coset.now ≤ max_section_rows → length (F.Finder.meaning below).rows + length coset.now ≤ max_rows → Within (F.Finder.meaning below).span coset.now
-        → (layer_meaning (layer_meaning F.Finder.meaning) result).rows ≡ (F.Finder.meaning below).rows ++ coset.now }
-{
-    let lower = coset.len().min(LAYER_ROWS);
-    let first = CosetLayer {
-        below,
-        own: Rows::first_of(&coset[0..lower]),
-    };
-    CosetLayer {
-        below: first,
-        own: Rows::first_of(&coset[lower..coset.len()]),
-    }
-}
-
-// The two layers of a card's coset rows.
+// Two layers of the coset rows of a card: the first four, and above them the others.
 fn on_card<F: Finder>(below: F, card: &FinishedCard, coset: &[u64]) -> CosetLayer<CosetLayer<F>>
     requires coset { coset.now ≡ card.now.coset }
     requires lawful { Lawful card.now }
@@ -180,7 +151,15 @@ fn on_card<F: Finder>(below: F, card: &FinishedCard, coset: &[u64]) -> CosetLaye
     ensures rows { (F.Finder.meaning below).span ≡ card.now.len → (F.Finder.meaning below).rows ≡ card.now.group ++ card.now.transform
         → (layer_meaning (layer_meaning F.Finder.meaning) result).rows ≡ rows_of card.now }
 {
-    two_layers(below, coset)
+    let (lower, upper) = coset.split_at(coset.len().min(LAYER_ROWS));
+    let first = CosetLayer {
+        below,
+        own: Rows::first_of(lower),
+    };
+    CosetLayer {
+        below: first,
+        own: Rows::first_of(upper),
+    }
 }
 
 // A finder under two layers with the coset rows of a card, four to a layer.
@@ -204,32 +183,6 @@ impl<F: Finder> CosetLayer<F> {
     {
         let own = self.own.as_slice();
         &own[0..own.len().min(MAX_ROWS - self.below.row_count())]
-    }
-
-    // The number of rows of the pile.
-    fn pile_count(&self) -> usize
-        ensures { result ≡ length ((layer_meaning F.Finder.meaning self.now).rows) }
-    {
-        self.below.row_count() + self.own_rows().len()
-    }
-
-    // Row j of the pile.
-    fn pile_row(&self, j: usize) -> Option<u64>
-        ensures { MatchOption result
-            (length ((layer_meaning F.Finder.meaning self.now).rows) ≤ j)
-            (λ w. (j < length ((layer_meaning F.Finder.meaning self.now).rows)) × (w ≡ slice_index ((layer_meaning F.Finder.meaning self.now).rows) j)) }
-    {
-        let k = self.below.row_count();
-        if j < k {
-            return self.below.row(j);
-        }
-        let own = self.own_rows();
-        let i = j - k;
-        if i < own.len() {
-            Some(first_digits(own[i], self.below.length().places()))
-        } else {
-            None
-        }
     }
 
     // A layer with no rows of its own yet.
@@ -256,13 +209,9 @@ impl<F: Finder> CosetLayer<F> {
     {
         let n = self.below.length().places();
         let k = self.below.row_count();
-        match check_row(n, k, self.own.as_slice().len(), row) {
-            Ok(()) => {
-                self.own.push(row);
-                Ok(())
-            }
-            Err(refusal) => Err(refusal),
-        }
+        check_row(n, k, self.own.as_slice().len(), row)?;
+        self.own.push(row);
+        Ok(())
     }
 }
 
@@ -276,11 +225,17 @@ impl<F: Finder> Finder for CosetLayer<F> {
     }
 
     fn row_count(&self) -> usize {
-        self.pile_count()
+        self.below.row_count() + self.own_rows().len()
     }
 
     fn row(&self, j: usize) -> Option<u64> {
-        self.pile_row(j)
+        let k = self.below.row_count();
+        if j < k {
+            return self.below.row(j);
+        }
+        let n = self.below.length().places();
+        let row = self.own_rows().get(j - k)?;
+        Some(first_digits(*row, n))
     }
 
     fn need(&self) -> usize {
@@ -288,8 +243,6 @@ impl<F: Finder> Finder for CosetLayer<F> {
     }
 
     fn search<R: Reading>(&self, word: &mut [R], work: &mut [R]) -> Result<Found<R>, Refusal> {
-        let n = self.below.length().places();
-        let k = self.below.row_count();
-        search_choices(&self.below, self.own_rows(), n, k, word, work)
+        search_choices(&self.below, self.own_rows(), word, work)
     }
 }

@@ -1,14 +1,23 @@
 -- One turn of the loops that fold a word.
-use Rattle.std.proofs.Common.{◌≡◌, ℕ, ◌+◌, ◌-◌, ◌*◌, ◌/◌, ◌%◌, ◌^◌, ◌<◌, ◌≤◌, cond, eqb, List, ◌∷◌, length, get_or, take, drop, set, ℤ, pos, ◌+ℤ◌, sum_by, sym, refl, ap, ◌∙◌, ⊎_elim, add-one, arith, pow_mono}
+use Rattle.std.proofs.Common.{◌≡◌, ℕ, ◌+◌, ◌-◌, ◌*◌, ◌/◌, ◌%◌, ◌^◌, ◌<◌, ◌≤◌, cond, eqb, List, [], ◌∷◌, length, get_or, take, drop, set, reverse, ℤ, pos, ◌+ℤ◌, sum_by, sym, refl, ap, ◌∙◌, ⊎_elim, add-one, arith, pow_mono, mod-eq_of_lt}
 use lib.IntN.{+ℤ_idr}
-use Rattle.std.proofs.lemmas.List.{take_more_set, drop_more, length-drop, length-take}
-use Rattle.std.proofs.lemmas.List.Sums.{sum_by-set, sum_by_push}
+use Rattle.std.specs.List.{fold}
+use Rattle.std.specs.Int.Bits.{bit_or}
+use Rattle.std.proofs.lemmas.Nat.{or_shifted}
+use Rattle.std.proofs.lemmas.List.{take_more_set, reverse-append}
+use Rattle.std.proofs.lemmas.List.Sums.{sum_by-set, sum_by_push, fold-append}
 use Rattle.std.proofs.lemmas.Bool.{cases_eq, eq-eqb, ne_eqb, cond-true, cond-false}
 use Rattle.code.specs.Limits.{size_limit}
 use Rattle.hadamard.specs.Transform.{weight_at}
 use Rattle.hadamard.proofs.Entries.{same_at, other_at}
-use Rattle.finder.specs.Fold.{column, column_rows, sum_of_slot}
+use Rattle.finder.specs.Fold.{column, sum_of_slot}
 use Rattle.finder.specs.Gather.{column_below}
+
+-- each entry weighs the sum of the first n readings whose slot it is, and no size was above the limit
+abbrev pub Scattered : {R : Type 0} (weight : R → ℤ) (size : R → ℕ) (slots : List ℕ) (word list : List R) (n : ℕ) → Type 0
+Scattered weight size slots word list n =
+    ((x : ℕ) → x < length list → weight_at weight list x ≡ sum_of_slot (λ k. get_or slots k 0) (weight_at weight word) n x)
+    × (sum_by size list ≤ n * size_limit)
 
 -- one reading more
 module _ {R : Type 0} (weight : R → ℤ) (size : R → ℕ) (slots : List ℕ) (word cur : List R) (i : ℕ) where
@@ -51,20 +60,22 @@ module _ {R : Type 0} (weight : R → ℤ) (size : R → ℕ) (slots : List ℕ)
 pub blank_more : {R : Type 0} (size : R → ℕ) (xs : List R) (i : ℕ) (v : R) → i < length xs → sum_by size (take i xs) ≡ 0 → size v ≤ 0 → sum_by size (take (i + 1) (set xs i v)) ≡ 0
 blank_more size xs i v h e z = ap (sum_by size) (take_more_set xs i v h) ∙ sum_by_push size (take i xs) v ∙ omega arith
 
--- one row more of a column
-pub column-step : (rows : List ℕ) (j i c : ℕ) → 0 < j → j ≤ length rows → c ≡ column (drop j rows) i → 2 * c + get_or rows (j - 1) 0 / 2 ^ i % 2 ≡ column (drop (j - 1) rows) i
-column-step rows j i c p l e =
-    let z : j - 1 + 1 ≡ j = omega arith in
-    let d : drop (j - 1) rows ≡ get_or rows (j - 1) 0 ∷ drop j rows = drop_more rows (j - 1) 0 (omega arith) ∙ ap (λ (k : ℕ). get_or rows (j - 1) 0 ∷ drop k rows) z in
-    let h : column (drop (j - 1) rows) i ≡ get_or rows (j - 1) 0 / 2 ^ i % 2 + 2 * column (drop j rows) i = ap (λ (r : List ℕ). column r i) d in
-    omega arith
+-- one row before the others
+abbrev pub with_digit : ℕ → ℕ → ℕ → ℕ
+with_digit i c r = bit_or (c * 2 ^ 1 % 2 ^ 64) (r / 2 ^ i % 2)
 
-pub column_small : (rows : List ℕ) (j i c : ℕ) → c ≡ column (drop j (take column_rows rows)) i → c < 65536
-column_small rows j i c e =
-    let few = take column_rows rows in
-    let b = column_below (drop j few) i in
-    let l = length-drop j few in
-    let t = length-take column_rows rows in
-    let k : length (drop j few) ≤ 16 = omega arith in
-    let p : 2 ^ length (drop j few) ≤ 2 ^ 16 = pow_mono k in
-    omega arith
+pub column_folded : (rows : List ℕ) (i : ℕ) → length rows ≤ 16 → fold (with_digit i) 0 (reverse rows) ≡ column rows i
+column_folded [] i h = refl
+column_folded (r ∷ rs) i h =
+    let c = column rs i in
+    let d = r / 2 ^ i % 2 in
+    let b = column_below rs i in
+    let s : length rs ≤ 16 = omega arith in
+    let p : 2 ^ length rs ≤ 2 ^ 16 = pow_mono s in
+    let whole : c * 2 ^ 1 % 2 ^ 64 ≡ c * 2 ^ 1 = mod-eq_of_lt (omega arith) in
+    ap (fold (with_digit i) 0) (reverse-append (r ∷ []) rs)
+    ∙ fold-append (with_digit i) 0 (reverse rs) (r ∷ [])
+    ∙ ap (λ (x : ℕ). with_digit i x r) (column_folded rs i (omega arith))
+    ∙ ap (λ (x : ℕ). bit_or x d) whole
+    ∙ or_shifted c 1 d (omega arith)
+    ∙ omega arith

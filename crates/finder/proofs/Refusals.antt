@@ -1,8 +1,9 @@
 -- When a search is refused, and what one that is not refused may rely on.
-use Rattle.std.proofs.Common.{◌≡◌, ℕ, ◌+◌, ◌<◌, ◌≤◌, cond, eqb, leb, List, [], ◌∷◌, map, length, get_or, drop, Some, None, Option, sym, ap, ◌∙◌, subst, ⊎_elim, arith}
-use Rattle.std.specs.List.{AllByRecursion}
-use Rattle.std.proofs.lemmas.List.{drop_more, drop_all}
-use Rattle.std.proofs.lemmas.Bool.{cond-true, cond-false, eq-eqb, ne_eqb, le-leb, lt-leb}
+use Rattle.std.proofs.Common.{◌≡◌, ℕ, ◌+◌, ◌<◌, ◌≤◌, cond, eqb, leb, ltb, List, [], ◌∷◌, map, length, Some, None, Option, refl, sym, ap, ◌∙◌, subst, ⊎_elim, arith}
+use Rattle.std.specs.List.{AllByRecursion, position, position_from}
+use Rattle.std.proofs.lemmas.Iterator.Adapters.{position_from-zero}
+use Rattle.std.proofs.lemmas.List.{length-map}
+use Rattle.std.proofs.lemmas.Bool.{cond-true, cond-false, eq-eqb, ne_eqb, le-leb, lt-leb, lt-ltb, le-ltb}
 use Rattle.std.proofs.lemmas.Bool.Decides.{leb_tells, eqb_tells}
 use Rattle.code.specs.Limits.{size_limit, sum_limit}
 use Rattle.code.specs.declared.refusal.Refusal.{Refusal}
@@ -25,16 +26,25 @@ module _ (n need : ℕ) (sizes : List ℕ) (have : ℕ) where
   unfolding refusal
   right_length h = cond-true (eqb (length sizes) n) _ _ (eq-eqb (length sizes) n h)
 
--- one size more
-module _ (sizes : List ℕ) (after : Option Refusal) (i : ℕ) where
-  pub size_passes : i < length sizes → get_or sizes i 0 ≤ size_limit → large_from (i + 1) (drop (i + 1) sizes) after ≡ large_from i (drop i sizes) after
-  size_passes low h = sym (ap (λ (l : List ℕ). large_from i l after) (drop_more sizes i 0 low) ∙ cond-true (leb (get_or sizes i 0) size_limit) _ _ (le-leb (get_or sizes i 0) size_limit h))
+-- what is said of a word whose first large size has this place
+abbrev pub large_or : Option ℕ → Option Refusal → Option Refusal
+large_or (Some place) after = Some (SizeTooLarge place)
+large_or None after = after
 
-  pub size_stops : i < length sizes → size_limit < get_or sizes i 0 → large_from i (drop i sizes) after ≡ Some (SizeTooLarge i)
-  size_stops low h = ap (λ (l : List ℕ). large_from i l after) (drop_more sizes i 0 low) ∙ cond-false (leb (get_or sizes i 0) size_limit) _ _ (lt-leb (get_or sizes i 0) size_limit h)
+large_found : {R : Type 0} (size : R → ℕ) (xs : List R) (i : ℕ) (after : Option Refusal) → large_from i (map size xs) after ≡ large_or (position_from (λ x. ltb size_limit (size x)) i xs) after
+large_found size [] i after = refl
+large_found size (x ∷ xs) i after =
+    ⊎_elim
+    (λ t. cond-true (leb (size x) size_limit) _ _ t.0 ∙ large_found size xs (i + 1) after ∙ sym (ap (λ (o : Option ℕ). large_or o after) (cond-false (ltb size_limit (size x)) _ _ (le-ltb size_limit (size x) t.1))))
+    (λ t. cond-false (leb (size x) size_limit) _ _ t.0 ∙ sym (ap (λ (o : Option ℕ). large_or o after) (cond-true (ltb size_limit (size x)) _ _ (lt-ltb size_limit (size x) t.1))))
+    (leb_tells (size x) size_limit)
 
-  pub sizes_pass : length sizes ≤ i → large_from i (drop i sizes) after ≡ after
-  sizes_pass h = ap (λ (l : List ℕ). large_from i l after) (drop_all i sizes h)
+-- what is said of a word of the right length, by the place of its first large size
+pub first_refusal : {R : Type 0} (size : R → ℕ) (word : List R) (n need have : ℕ) (large : Option ℕ) → length word ≡ n → large ≡ position (λ x. ltb size_limit (size x)) word → refusal n need (map size word) have ≡ large_or large (memory need have)
+first_refusal size word n need have large long is =
+    right_length n need (map size word) have (length-map word size ∙ long)
+    ∙ large_found size word 0 (memory need have)
+    ∙ ap (λ (o : Option ℕ). large_or o (memory need have)) (sym (position_from-zero (λ x. ltb size_limit (size x)) word) ∙ sym is)
 
 pub memory_short : (need have : ℕ) → have < need → memory need have ≡ Some WorkMemoryShort
 memory_short need have h = cond-false (leb need have) _ _ (lt-leb need have h)

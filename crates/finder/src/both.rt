@@ -28,13 +28,7 @@ pub fn search_both<R: Reading, Q: Reading, A: Finder, B: Finder>(
         (λ p. SameAnswer (A.Finder.meaning a.now).rows (B.Finder.meaning b.now).rows (map R.Reading.weight word_a.old) (map Q.Reading.weight word_b.old) p.0.message p.1.message (R.Reading.weight p.0.reading) (Q.Reading.weight p.1.reading))
         (λ _. Unit {0}) }
 {
-    let first = match a.search(word_a, work_a) {
-        Ok(found) => found,
-        Err(refusal) => return Err(refusal),
-    };
-    let second = match b.search(word_b, work_b) {
-        Ok(found) => found,
-        Err(refusal) => return Err(refusal),
-    };
+    let first = a.search(word_a, work_a)?;
+    let second = b.search(word_b, work_b)?;
     Ok((first, second))
 }

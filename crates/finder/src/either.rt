@@ -7,7 +7,7 @@ use code::length::WordLength;
 use code::refusal::Refusal;
 use reading::Reading;
 
-// One of two finders, and itself a finder.
+// One of two finders, and itself a finder. The kit has such a type in its crate `either`, with other names for the variants, which callers match on.
 #[derive(Clone, Copy)]
 pub enum Either<A, B> {
     First(A),

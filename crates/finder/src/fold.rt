@@ -1,4 +1,4 @@
-ghost use Rattle.std.specs.Prelude.{◌≡◌, ℕ, ◌*◌, ◌<◌, ◌≤◌, map, length, take, pos, sum_by, MatchResult, slice_index};
+ghost use Rattle.std.specs.Prelude.{◌≡◌, ℕ, ◌*◌, ◌<◌, ◌≤◌, map, length, take, pos, position, sum_by, MatchResult, nat_lt, slice_index};
 ghost use Rattle.std.specs.List.{AllByRecursion};
 ghost use Rattle.code.specs.Limits.{max_places, size_limit};
 ghost use Rattle.hadamard.specs.Transform.{weight_at};
@@ -25,8 +25,8 @@ fn all_columns(rows: &[u64], n: usize) -> [usize; 64]
     ensures { (i : ℕ) → i < n → slice_index result i ≡ column (take column_rows rows.now) i }
 {
     let mut slots = [0; 64];
-    for i in 0..n {
-        slots[i] = column_of(rows, i);
+    for (i, slot) in slots[..n].iter_mut().enumerate() {
+        *slot = column_of(rows, i);
     }
     slots
 }
@@ -35,30 +35,33 @@ fn column_of(rows: &[u64], i: usize) -> usize
     requires { i < max_places }
     ensures { result ≡ column (take column_rows rows.now) i }
 {
-    let mut c = 0usize;
-    for j in (0..rows.len().min(COLUMN_ROWS)).rev() {
-        c = 2 * c + ((rows[j] >> i) % 2) as usize;
-    }
-    c
+    let few = &rows[..rows.len().min(COLUMN_ROWS)];
+    few.iter().rev().fold(0, |c, row| c << 1 | (row >> i) as usize % 2)
 }
 
-// Why a word, with so much work memory, is turned down, if it is.
-fn check<R: Reading>(word: &[R], n: usize, need: usize, have: usize) -> Option<Refusal>
-    ensures { result ≡ refusal n need (map R.Reading.size word.now) have }
+// The first place of a size above the limit.
+fn first_large<R: Reading>(word: &[R]) -> Option<usize>
+    ensures { result ≡ position (λ x. nat_lt size_limit (R.Reading.size x)) word.now }
+{
+    word.iter().position(|x| x.size() > SIZE_LIMIT)
+}
+
+// The checks of a word and of so much work memory, in their order.
+fn check<R: Reading>(word: &[R], n: usize, need: usize, have: usize) -> Result<(), Refusal>
+    ensures { MatchResult result
+        (λ _. refusal n need (map R.Reading.size word.now) have ≡ None)
+        (λ e. refusal n need (map R.Reading.size word.now) have ≡ Some e) }
 {
     if word.len() != n {
-        return Some(Refusal::WordLengthDiffers);
+        return Err(Refusal::WordLengthDiffers);
     }
-    for i in 0..word.len() {
-        if word[i].size() > SIZE_LIMIT {
-            return Some(Refusal::SizeTooLarge { place: i });
-        }
+    if let Some(place) = first_large(word) {
+        return Err(Refusal::SizeTooLarge { place });
     }
     if have < need {
-        Some(Refusal::WorkMemoryShort)
-    } else {
-        None
+        return Err(Refusal::WorkMemoryShort);
     }
+    Ok(())
 }
 
 // Sets each entry to a reading of no weight and no size.
@@ -66,6 +69,7 @@ fn blank<R: Reading>(list: &mut [R])
     ensures weights { (x : ℕ) → x < length list.new → weight_at R.Reading.weight list.new x ≡ pos 0 }
     ensures sizes { sum_by R.Reading.size list.new ≡ 0 }
 {
+    // Not `fill`, which asks that a clone of a reading cannot fail.
     let zero = R::make(0, 0);
     for x in list.iter_mut() {
         *x = zero;
@@ -81,10 +85,11 @@ fn scatter<R: Reading>(word: &[R], slots: &[usize], list: &mut [R])
     ensures sums { (x : ℕ) → x < length list.new → weight_at R.Reading.weight list.new x ≡ sum_of_slot (λ i. slice_index slots.now i) (weight_at R.Reading.weight word.now) (length word.now) x }
     ensures total { sum_by R.Reading.size list.new ≤ length word.now * size_limit }
 {
-    for i in 0..word.len() {
-        let at = slots[i];
+    for (x, slot) in word.iter().zip(slots) {
+        // Not `get_mut`: a proof does not see in the list what is written through it.
+        let at = *slot;
         if at < list.len() {
-            list[at] = list[at].add(word[i]);
+            list[at] = list[at].add(*x);
         }
     }
 }
@@ -101,9 +106,7 @@ fn fold_checked<R: Reading>(
         (λ _. Folded R.Reading n need slots.now word.now work.old work.new)
         (λ e. Refused R.Reading.size n need word.now work.old work.new e) }
 {
-    if let Some(refusal) = check(word, n, need, work.len()) {
-        return Err(refusal);
-    }
+    check(word, n, need, work.len())?;
     let list = &mut work[0..need];
     blank(list);
     scatter(word, slots, list);

@@ -40,10 +40,10 @@ fn first_largest<R: Reading>(list: &[R]) -> Found<R>
         message: 0,
         reading: list[0],
     };
-    for i in 1..list.len() {
+    for (i, reading) in list[1..].iter().enumerate() {
         let next = Found {
-            message: i as u32,
-            reading: list[i],
+            message: i as u32 + 1,
+            reading: *reading,
         };
         best = best.or_heavier(next);
     }
@@ -58,37 +58,25 @@ fn message_count(rows: usize) -> usize
     1usize << rows
 }
 
-// Row j, or none for a number beyond the last.
-fn row_at(rows: &[u64], j: usize) -> Option<u64>
-    ensures { MatchOption result (length rows.now ≤ j) (λ w. (j < length rows.now) × (w ≡ slice_index rows.now j)) }
-{
-    if j < rows.len() { Some(rows[j]) } else { None }
-}
-
 // Folds the word by the columns of the rows, transforms the list and takes its first largest entry.
 fn search_rows<R: Reading>(
     rows: &[u64],
     span: WordLength,
-    need: usize,
     word: &[R],
     work: &mut [R],
 ) -> Result<Found<R>, Refusal>
     requires sized { Length span }
     requires few { length rows.now ≤ column_rows }
-    requires room { need ≡ 2 ^ length rows.now }
     ensures { MatchResult result
-        (Answered R.Reading (record { span = span; rows = rows.now; need = need }) word.now work.old work.new)
-        (λ e. Refused R.Reading.size span need word.now work.old work.new e) }
+        (Answered R.Reading (record { span = span; rows = rows.now; need = 2 ^ length rows.now }) word.now work.old work.new)
+        (Refused R.Reading.size span (2 ^ length rows.now) word.now work.old work.new) }
 {
+    let need = message_count(rows.len());
     let slots = columns(rows, span);
-    match fold(word, span, &slots, need, work) {
-        Ok(()) => {
-            let list = &mut work[0..need];
-            let _ = transform(list);
-            Ok(first_largest(list))
-        }
-        Err(refusal) => Err(refusal),
-    }
+    fold(word, span, &slots, need, work)?;
+    let list = &mut work[0..need];
+    transform(list).unwrap();
+    Ok(first_largest(list))
 }
 
 // The plain finder of the first `count` rows of a card, which are those of its group and transform sections.
@@ -135,7 +123,7 @@ impl Finder for PlainFinder {
     }
 
     fn row(&self, j: usize) -> Option<u64> {
-        row_at(self.rows(), j)
+        self.rows().get(j).copied()
     }
 
     fn need(&self) -> usize {
@@ -143,6 +131,6 @@ impl Finder for PlainFinder {
     }
 
     fn search<R: Reading>(&self, word: &mut [R], work: &mut [R]) -> Result<Found<R>, Refusal> {
-        search_rows(self.rows(), self.span, self.need(), word, work)
+        search_rows(self.rows(), self.span, word, work)
     }
 }

@@ -9,7 +9,7 @@ invariant-loop-choice g l =
     let weight = g.R.Reading.weight in
     let rows = (g.F.Finder.meaning l.below).rows in
     let need = (g.F.Finder.meaning l.below).need in
-    let all = agrees (rows ++ cut_to l.n l.own) (map weight l.initial.word) in
+    let all = agrees (rows ++ cut_to (g.F.Finder.meaning l.below).span l.own) (map weight l.initial.word) in
     (l.word ≡ l.initial.word)
     × (drop need l.work ≡ drop need l.initial.work)
     × Top all (l.choice * 2 ^ length rows) l.best.message

@@ -1,4 +1,4 @@
-use Rattle.std.proofs.Common.{◌≡◌, ℕ, ◌-◌, ◌*◌, ◌++◌, map, length, get_or, take, pos, sum_by, sym, ap, ◌∙◌, arith}
+use Rattle.std.proofs.Common.{◌≡◌, ℕ, ◌-◌, ◌*◌, ◌++◌, map, length, get_or, take, pos, sum_by, ap, ◌∙◌, arith}
 use borrow.Rule.Slice.PartMut.{post_of}
 use Rattle.std.proofs.lemmas.List.{length-take-le, length-map, map-append, get_or_append_left, take_at}
 use Rattle.std.proofs.lemmas.Slice.{drop-append-drop}
@@ -10,12 +10,12 @@ use Rattle.finder.proofs.fold.fold_checked.Goals as goal
 
 pub slice_bounds-list-end : goal.slice_bounds-list-end
 slice_bounds-list-end g c =
-    let t = sym c.check.ensures ∙ c.in_default.is in
+    let t = c.in_ok-check.ensures in
     (taken_facts c.args.n c.args.need (map g.R.Reading.size c.args.word.now) (length c.args.work.now) t).2
 
 pub scatter-requires : goal.scatter-requires
 scatter-requires g c =
-    let t = sym c.check.ensures ∙ c.in_default.is in
+    let t = c.in_ok-check.ensures in
     let f = taken_facts c.args.n c.args.need (map g.R.Reading.size c.args.word.now) (length c.args.work.now) t in
     let f0 = f.0 in
     let e = length-map c.args.word.now g.R.Reading.size in
@@ -38,7 +38,7 @@ returns g c =
     let k = c.args.need in
     let slots = c.args.slots.now in
     let list = c.scatter.new.list in
-    let t = sym c.check.ensures ∙ c.in_default.is in
+    let t = c.in_ok-check.ensures in
     let f = taken_facts n k (map size word) (length work) t in
     let f0 = f.0 in
     let f2 = f.2 in
