@@ -1,9 +1,9 @@
 -- Powers of two, and what is said of a list.
-use Rattle.std.proofs.Common.{◌≡◌, ℕ, zero, suc, ◌+◌, ◌-◌, ◌*◌, ◌/◌, ◌%◌, ◌^◌, ◌<◌, ◌≤◌, true, false, Ok, Err, sym, ap, ◌∙◌, ⊎_elim, subst, pow_pos, pow_mono, pow-add, pow-suc, add-one, arith}
+use Rattle.std.proofs.Common.{◌≡◌, ℕ, zero, suc, ◌+◌, ◌-◌, ◌*◌, ◌/◌, ◌%◌, ◌^◌, ◌<◌, ◌≤◌, true, false, Ok, Err, sym, ap, ◌∙◌, ⊎_elim, subst, pow_pos, pow-suc, add-one, arith}
 use lib.Count.{ones, ones_step, ones_cat, count_trailing_zeros, under}
 use mir.Syntax.{w64}
 use Rattle.std.proofs.lemmas.Nat.Bits.{bit_at-trailing_zeros, bit_at-pow_other}
-use Rattle.std.proofs.lemmas.Bool.{eq-eqb, ne_eqb, or_from, or_left, or_right, cases_eq, cases_lt, cond-true, cond-false, le-leb, lt-leb}
+use Rattle.std.proofs.lemmas.Bool.{eq-eqb, ne_eqb, or_from, or_left, or_right, cases_eq, cond-true, cond-false, le-leb, lt-leb}
 use Rattle.code.specs.Limits.{sum_limit}
 use Rattle.code.specs.declared.refusal.Refusal.TheVariants.{ListNotPower, ListTotalTooLarge}
 use Rattle.hadamard.specs.Transform.{is_power, verdict, max_exponent}
@@ -12,23 +12,11 @@ use Rattle.hadamard.proofs.Signs.{ones_0, ones_1}
 pub pow_up : (t : ℕ) → 2 ^ t * 2 ≡ 2 ^ (t + 1)
 pow_up t = rw (add-one, pow-suc)
 
--- the stage after k of t: its stride is 2 ^ (t - k - 1), in 2 ^ k blocks
-pub below_64 : (t : ℕ) → 2 ^ t < 2 ^ 64 → t < 64
-below_64 t h = ⊎_elim (λ l. l) (λ l. absurd (let p = pow_mono {i = 64} {j = t} l in omega arith)) (cases_lt t 64)
-
-pub shifted_one : (t k : ℕ) → k ≤ t → 2 ^ t < 2 ^ 64 → 1 * 2 ^ k % 2 ^ 64 ≡ 2 ^ k
-shifted_one t k l h = let p = pow_mono {i = k} {j = t} l in omega arith
-
-pub block_halved : (t k : ℕ) → k < t → 2 ^ (t - k) ≡ 2 ^ (t - k - 1) + 2 ^ (t - k - 1)
-block_halved t k l =
-    let s : t - k - 1 + 1 ≡ t - k = omega arith in
-    let p = pow_up (t - k - 1) ∙ ap (λ j. 2 ^ j) s in
-    omega arith
-
-pub blocks_cover : (t k : ℕ) → k < t → 2 ^ t ≡ 2 ^ k * (2 ^ (t - k - 1) + 2 ^ (t - k - 1))
-blocks_cover t k l =
-    let s : t ≡ k + (t - k) = omega arith in
-    ap (λ j. 2 ^ j) s ∙ pow-add 2 k (t - k) ∙ ap (λ n. 2 ^ k * n) (block_halved t k l)
+pub halved : (n t : ℕ) → n ≡ 2 ^ t → (t ≡ 0 → ⊥) → (n ≡ n / 2 + n / 2) × (n / 2 ≡ 2 ^ (t - 1))
+halved n t e z =
+    let s : t - 1 + 1 ≡ t = omega arith in
+    let p : 2 ^ (t - 1) * 2 ≡ n = pow_up (t - 1) ∙ ap (λ k. 2 ^ k) s ∙ sym e in
+    (omega arith, omega arith)
 
 -- a number with one digit set is a power of two, and its trailing zeros are the exponent
 none_set : (k n : ℕ) → n < 2 ^ k → ones n ≡ 0 → n ≡ 0

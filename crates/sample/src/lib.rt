@@ -38,10 +38,7 @@ fn level_label(v: f32, place: usize) -> Result<i32, Refusal>
     ensures value { result ≡ answer (level_fault place v) (label_at v) }
     ensures bound { IfOk result (λ l. unsigned_abs l ≤ full_label) }
 {
-    match label(v) {
-        Some(l) => Ok(l),
-        None => Err(Refusal::LevelOutOfRange { place }),
-    }
+    label(v).ok_or(Refusal::LevelOutOfRange { place })
 }
 
 impl Sample {
@@ -80,11 +77,8 @@ fn first_bad(samples: &[Sample]) -> Result<(), Refusal>
     ensures value { result ≡ answer (first_fault 0 samples.now) tt }
     ensures rule { MatchResult result (λ _. AllGood samples.now) (FirstBad samples.now) }
 {
-    for (i, sample) in samples.iter().enumerate() {
-        match sample.labels(i) {
-            Ok(_) => {}
-            Err(refusal) => return Err(refusal),
-        }
+    for (place, sample) in samples.iter().enumerate() {
+        sample.labels(place)?;
     }
     Ok(())
 }

@@ -1,56 +1,57 @@
-use Rattle.std.proofs.Common.{◌≡◌, ℕ, ◌+◌, ◌-◌, ◌*◌, ◌^◌, sum_by, ap, ◌∙◌, refl, subst, arith}
+use Rattle.std.proofs.Common.{◌≡◌, ℕ, ◌+◌, ◌-◌, ◌*◌, ◌/◌, ◌^◌, ◌≤◌, length, sum_by, sym, ap, ◌∙◌, subst, mul_assoc, mul-le-mul_left, arith, pow_pos}
 use Rattle.hadamard.specs.Stages.{Blocked, block}
-use Rattle.hadamard.proofs.Powers.{pow_up, below_64, shifted_one, block_halved, blocks_cover}
+use Rattle.hadamard.proofs.Powers.{halved}
 use Rattle.hadamard.proofs.Blocks.{stride, blocked_start, blocked_end}
 use Rattle.hadamard.proofs.stages.Goals as goal
 
-pub overflow_shl-t : goal.overflow_shl-t
-overflow_shl-t g c = omega (arith, below_64 c.args.t (omega arith))
-
-pub overflow_shl-done : goal.overflow_shl-done
-overflow_shl-done g c = omega (arith, below_64 c.args.t (omega arith))
+pub loop-init : goal.loop-init
+loop-init g c =
+    let z : c.args.t ≡ c.args.t - 0 = omega arith in
+    (c.requires.long ∙ ap (λ k. 2 ^ k) z, omega arith, blocked_start g.R.Reading.weight g.R.Reading.size c.args.list.now)
 
 pub stage-requires : goal.stage-requires
 stage-requires g c =
-    let t = c.args.t in
-    let k = c.loop-done.done in
-    let half = shifted_one t (t - k - 1) (omega arith) (omega arith) in
-    let blocks = shifted_one t k (omega arith) (omega arith) in
-    rw (half, blocks) (record {
-      long = c.loop-done.auto.list ∙ c.requires.long ∙ blocks_cover t k c.loop-done-test.true;
+    let h = c.loop.half / 2 in
+    let half = halved c.loop.half (c.args.t - c.loop.counter) c.loop.invariant.0 (λ e. omega arith) in
+    record {
+      long = c.loop.invariant.1 ∙ ap (λ m. c.loop.blocks * m) half.0;
       small = λ b l.
-          let e = ap (λ m. sum_by g.R.Reading.size (block m b c.loop-done.list)) (block_halved t k c.loop-done-test.true) in
-          omega (arith, c.loop-done.invariant.small b l);
-    })
+          let e = ap (λ m. sum_by g.R.Reading.size (block m b c.loop.list)) half.0 in
+          omega (arith, c.loop.invariant.2.small b l);
+    }
 
-pub loop-done-init : goal.loop-done-init
-loop-done-init g c =
-    let old = c.args.list.now in
-    let z : c.args.t ≡ c.args.t - 0 = omega arith in
-    subst (λ (m : ℕ). Blocked g.R.Reading.weight g.R.Reading.size m 1 old old) (c.requires.long ∙ ap (λ j. 2 ^ j) z) (blocked_start g.R.Reading.weight g.R.Reading.size old)
+pub overflow_mul-blocks : goal.overflow_mul-blocks
+overflow_mul-blocks g c =
+    let half = halved c.loop.half (c.args.t - c.loop.counter) c.loop.invariant.0 (λ e. omega arith) in
+    let two : 2 ≤ c.loop.half = omega (arith, pow_pos (c.args.t - c.loop.counter - 1)) in
+    omega (arith, mul-le-mul_left c.loop.blocks two, c.loop.invariant.1)
 
-pub loop-done-preserved : goal.loop-done-preserved
-loop-done-preserved g c =
+pub loop-preserved : goal.loop-preserved
+loop-preserved g c =
     let weight = g.R.Reading.weight in
     let size = g.R.Reading.size in
     let old = c.args.list.now in
-    let cur = c.loop-done.list in
-    let t = c.args.t in
-    let k = c.loop-done.done in
-    let half = shifted_one t (t - k - 1) (omega arith) (omega arith) in
-    let blocks = shifted_one t k (omega arith) (omega arith) in
-    let staged = rw (half, blocks) at c.stage.ensures in
-    let inv = subst (λ (m : ℕ). Blocked weight size m (2 ^ k) old cur) (block_halved t k c.loop-done-test.true) c.loop-done.invariant in
-    let less : t - k - 1 ≡ t - (k + 1) = omega arith in
-    let next = stride weight size (t - k - 1) (2 ^ (t - k - 1)) (2 ^ k) old cur c.stage.new.list refl (c.loop-done.auto.list ∙ c.requires.long ∙ blocks_cover t k c.loop-done-test.true) c.stage.auto.list inv staged in
-    subst (λ (n : ℕ). Blocked weight size (2 ^ (t - (k + 1))) n old c.stage.new.list) (pow_up k) (subst (λ (s : ℕ). Blocked weight size (2 ^ s) (2 ^ k * 2) old c.stage.new.list) less next)
+    let cur = c.loop.list in
+    let n = c.loop.blocks in
+    let h = c.loop.half / 2 in
+    let half = halved c.loop.half (c.args.t - c.loop.counter) c.loop.invariant.0 (λ e. omega arith) in
+    let long : length cur ≡ n * (h + h) = c.loop.invariant.1 ∙ ap (λ m. n * m) half.0 in
+    let inv = subst (λ (m : ℕ). Blocked weight size m n old cur) half.0 c.loop.invariant.2 in
+    let less : c.args.t - c.loop.counter - 1 ≡ c.args.t - (c.loop.counter + 1) = omega arith in
+    let two : h + h ≡ 2 * h = omega arith in (
+      half.1 ∙ ap (λ k. 2 ^ k) less,
+      c.stage.auto.list ∙ long ∙ ap (λ m. n * m) two ∙ sym (mul_assoc n 2 h),
+      stride weight size (c.args.t - c.loop.counter - 1) h n old cur c.stage.new.list half.1 long c.stage.auto.list inv c.stage.ensures,
+    )
 
 pub returns : goal.returns
 returns g c =
     let weight = g.R.Reading.weight in
     let size = g.R.Reading.size in
     let old = c.args.list.now in
-    let cur = c.loop-done.list in
-    let z : c.args.t - c.loop-done.done ≡ 0 = omega arith in
-    let all : c.args.t ≡ c.loop-done.done = omega arith in
-    blocked_end weight size (2 ^ c.loop-done.done) old cur (c.requires.long ∙ ap (λ j. 2 ^ j) all) c.loop-done.auto.list (subst (λ (s : ℕ). Blocked weight size (2 ^ s) (2 ^ c.loop-done.done) old cur) z c.loop-done.invariant)
+    let cur = c.loop.list in
+    let n = c.loop.blocks in
+    let z : c.args.t - c.loop.counter ≡ 0 = omega arith in
+    let one : c.loop.half ≡ 1 = c.loop.invariant.0 ∙ ap (λ k. 2 ^ k) z in
+    let long : length old ≡ n = sym c.loop.auto.list ∙ c.loop.invariant.1 ∙ ap (λ m. n * m) one ∙ omega arith in
+    blocked_end weight size n old cur long c.loop.auto.list (subst (λ (m : ℕ). Blocked weight size m n old cur) one c.loop.invariant.2)

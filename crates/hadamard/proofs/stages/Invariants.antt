@@ -1,6 +1,6 @@
-use Rattle.std.proofs.Common.{◌-◌, ◌^◌}
+use Rattle.std.proofs.Common.{◌≡◌, ◌-◌, ◌*◌, ◌^◌, length}
 use Rattle.hadamard.specs.Stages.{Blocked}
 use Rattle.hadamard.proofs.stages.Given as goal
 
-abbrev pub invariant-loop-done : goal.invariant-loop-done
-invariant-loop-done g l = Blocked g.R.Reading.weight g.R.Reading.size (2 ^ (l.t - l.done)) (2 ^ l.done) l.initial.list l.list
+abbrev pub invariant-loop : goal.invariant-loop
+invariant-loop g l = (l.half ≡ 2 ^ (l.t - l.counter)) × (length l.list ≡ l.blocks * l.half) × Blocked g.R.Reading.weight g.R.Reading.size l.half l.blocks l.initial.list l.list
