@@ -48,27 +48,15 @@ impl Sample {
         ensures rule { MatchResult result (λ _. Good self.now) (Bad place self.now) }
         ensures bound { IfOk result (λ l. (unsigned_abs l.main ≤ full_label) × (unsigned_abs l.second ≤ full_label)) }
     {
-        match self {
-            Sample::Bit(0) => Ok(Labels {
-                main: FULL_LABEL,
-                second: 0,
-            }),
-            Sample::Bit(1) => Ok(Labels {
-                main: -FULL_LABEL,
-                second: 0,
-            }),
-            Sample::Bit(_) => Err(Refusal::BitNotBinary { place }),
-            Sample::Level(v) => Ok(Labels {
-                main: level_label(*v, place)?,
-                second: 0,
-            }),
-            Sample::Pair(p) => {
-                let main = level_label(p.main, place)?;
-                let second = level_label(p.second, place)?;
-                Ok(Labels { main, second })
-            }
-            Sample::Dropout => Ok(Labels { main: 0, second: 0 }),
-        }
+        let (main, second) = match self {
+            Sample::Bit(0) => (FULL_LABEL, 0),
+            Sample::Bit(1) => (-FULL_LABEL, 0),
+            Sample::Bit(_) => return Err(Refusal::BitNotBinary { place }),
+            Sample::Level(v) => (level_label(*v, place)?, 0),
+            Sample::Pair(p) => (level_label(p.main, place)?, level_label(p.second, place)?),
+            Sample::Dropout => (0, 0),
+        };
+        Ok(Labels { main, second })
     }
 }
 
