@@ -83,9 +83,7 @@ mod tests {
     fn transform_of_four(rt: HostRuntime) {
         let mut list = [level(1), level(2), level(3), level(4)];
         assert!(rt; transform(&mut list).is_ok());
-        assert!(rt;
-            list[0].value == 10 && list[1].value == -2 && list[2].value == -4 && list[3].value == 0
-        );
+        assert!(rt; list == [level(10), level(-2), level(-4), level(0)]);
     }
 
     #[test]
@@ -99,8 +97,8 @@ mod tests {
         let old = list;
         assert!(rt; transform(&mut list).is_ok());
         assert!(rt; transform(&mut list).is_ok());
-        for i in 0..1024 {
-            assert!(rt; i64::from(list[i].value) == 1024 * i64::from(old[i].value));
+        for (twice, once) in list.iter().zip(&old) {
+            assert!(rt; i64::from(twice.value) == 1024 * i64::from(once.value));
         }
     }
 
@@ -108,13 +106,13 @@ mod tests {
     fn refused_lists_stay(rt: HostRuntime) {
         let mut three = [level(1), level(2), level(3)];
         assert!(rt; number(transform(&mut three)) == 18);
-        assert!(rt; three[0].value == 1 && three[1].value == 2 && three[2].value == 3);
+        assert!(rt; three == [level(1), level(2), level(3)]);
         let mut none: [Level; 0] = [];
         assert!(rt; number(transform(&mut none)) == 18);
         let limit = SUM_LIMIT as i32;
         let mut large = [level(limit), level(-1)];
         assert!(rt; number(transform(&mut large)) == 19);
-        assert!(rt; large[0].value == limit && large[1].value == -1);
+        assert!(rt; large == [level(limit), level(-1)]);
         let mut most = [level(limit), level(0)];
         assert!(rt; number(transform(&mut most)) == 0);
         assert!(rt; most[1].value == limit);

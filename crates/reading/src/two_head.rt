@@ -1,5 +1,4 @@
-ghost use Rattle.std.specs.Prelude.{◌≡◌, ◌+◌, ◌^◌, ◌≤◌, ◌+ℤ◌};
-ghost use Rattle.code.specs.Limits.{sum_limit};
+ghost use Rattle.std.specs.Prelude.{◌≡◌, ◌^◌};
 ghost use Rattle.reading.specs.Kinds.{heads_weight, heads_size, heads_opposite};
 ghost use Rattle.std.proofs.Common.{rules};
 
@@ -7,24 +6,10 @@ use crate::Reading;
 use std::fmt;
 
 // The two-head kind: a main number and a second one, which decides only where the main numbers are equal.
-#[derive(Clone, Copy, PartialEq, Eq, Debug)]
+#[derive(Clone, Copy, PartialEq, Eq, PartialOrd, Ord, Debug)]
 pub struct TwoHead {
     pub main: i32,
     pub second: i32,
-}
-
-impl TwoHead {
-    // The sum, number by number.
-    fn plus(self, other: TwoHead) -> TwoHead
-        requires { heads_size self + heads_size other ≤ sum_limit }
-        ensures weighs { heads_weight result ≡ heads_weight self +ℤ heads_weight other }
-        ensures small { heads_size result ≤ heads_size self + heads_size other }
-    {
-        TwoHead {
-            main: self.main + other.main,
-            second: self.second + other.second,
-        }
-    }
 }
 
 impl Reading for TwoHead {
@@ -58,7 +43,10 @@ impl Reading for TwoHead {
     }
 
     fn add(self, other: TwoHead) -> TwoHead {
-        self.plus(other)
+        TwoHead {
+            main: self.main + other.main,
+            second: self.second + other.second,
+        }
     }
 
     fn negate(self) -> TwoHead {
@@ -69,11 +57,7 @@ impl Reading for TwoHead {
     }
 
     fn below(self, other: TwoHead) -> bool {
-        if self.main == other.main {
-            self.second < other.second
-        } else {
-            self.main < other.main
-        }
+        self < other
     }
 
     fn size(self) -> u32 {
@@ -83,8 +67,6 @@ impl Reading for TwoHead {
 
 impl fmt::Display for TwoHead {
     fn fmt<W: fmt::Write>(&self, f: &mut fmt::Formatter<W>) -> fmt::Result {
-        let main = self.main;
-        let second = self.second;
-        write!(f, "({main}, {second})")
+        write!(f, "({}, {})", self.main, self.second)
     }
 }

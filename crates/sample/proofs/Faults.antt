@@ -18,12 +18,12 @@ unfolding first_fault
 first_some xs i d r h e = at_drop_more (first_fault i) xs i d h ∙ ap (λ o. or_else o (first_fault (i + 1) (drop (i + 1) xs))) e
 
 pub answer_err : {B : Type 0} (o : Option Refusal) (v : B) (e : Refusal) → Err e ≡ answer o v → o ≡ Some e
-answer_err None v e q = let z : ◌≡◌ {A = ℕ} 0 1 = cc in absurd (omega arith)
+answer_err None v e q = cc
 answer_err (Some d) v e q = cc
 
 pub answer_ok : {B : Type 0} (o : Option Refusal) (v w : B) → Ok w ≡ answer o v → o ≡ None
 answer_ok None v w q = refl
-answer_ok (Some d) v w q = let z : ◌≡◌ {A = ℕ} 0 1 = cc in absurd (omega arith)
+answer_ok (Some d) v w q = cc
 
 level_good : (i : ℕ) (v : Float) → in_range v ≡ true → level_fault i v ≡ None
 level_good i v g = ap (λ t. cond t None (Some (LevelOutOfRange i))) g
@@ -39,8 +39,8 @@ good_none i (Pair p) g = ap (λ o. or_else o (level_fault i p.second)) (level_go
 good_none i Dropout g = refl
 
 pair_bad : (i : ℕ) (a b : Bool) → (a ≡ false) ⊎ (b ≡ false) → or_else (cond a None (Some (LevelOutOfRange i))) (cond b None (Some (LevelOutOfRange i))) ≡ Some (LevelOutOfRange i)
-pair_bad i true true (inl e) = let z : ◌≡◌ {A = ℕ} 0 1 = cc in absurd (omega arith)
-pair_bad i true true (inr e) = let z : ◌≡◌ {A = ℕ} 0 1 = cc in absurd (omega arith)
+pair_bad i true true (inl e) = cc
+pair_bad i true true (inr e) = cc
 pair_bad i true false g = refl
 pair_bad i false b g = refl
 

@@ -38,10 +38,7 @@ fn level_label(v: f32, place: usize) -> Result<i32, Refusal>
     ensures value { result ≡ answer (level_fault place v) (label_at v) }
     ensures bound { IfOk result (λ l. unsigned_abs l ≤ full_label) }
 {
-    match label(v) {
-        Some(l) => Ok(l),
-        None => Err(Refusal::LevelOutOfRange { place }),
-    }
+    label(v).ok_or(Refusal::LevelOutOfRange { place })
 }
 
 impl Sample {
@@ -51,27 +48,15 @@ impl Sample {
         ensures rule { MatchResult result (λ _. Good self.now) (Bad place self.now) }
         ensures bound { IfOk result (λ l. (unsigned_abs l.main ≤ full_label) × (unsigned_abs l.second ≤ full_label)) }
     {
-        match self {
-            Sample::Bit(0) => Ok(Labels {
-                main: FULL_LABEL,
-                second: 0,
-            }),
-            Sample::Bit(1) => Ok(Labels {
-                main: -FULL_LABEL,
-                second: 0,
-            }),
-            Sample::Bit(_) => Err(Refusal::BitNotBinary { place }),
-            Sample::Level(v) => Ok(Labels {
-                main: level_label(*v, place)?,
-                second: 0,
-            }),
-            Sample::Pair(p) => {
-                let main = level_label(p.main, place)?;
-                let second = level_label(p.second, place)?;
-                Ok(Labels { main, second })
-            }
-            Sample::Dropout => Ok(Labels { main: 0, second: 0 }),
-        }
+        let (main, second) = match self {
+            Sample::Bit(0) => (FULL_LABEL, 0),
+            Sample::Bit(1) => (-FULL_LABEL, 0),
+            Sample::Bit(_) => return Err(Refusal::BitNotBinary { place }),
+            Sample::Level(v) => (level_label(*v, place)?, 0),
+            Sample::Pair(p) => (level_label(p.main, place)?, level_label(p.second, place)?),
+            Sample::Dropout => (0, 0),
+        };
+        Ok(Labels { main, second })
     }
 }
 
@@ -80,11 +65,8 @@ fn first_bad(samples: &[Sample]) -> Result<(), Refusal>
     ensures value { result ≡ answer (first_fault 0 samples.now) tt }
     ensures rule { MatchResult result (λ _. AllGood samples.now) (FirstBad samples.now) }
 {
-    for (i, sample) in samples.iter().enumerate() {
-        match sample.labels(i) {
-            Ok(_) => {}
-            Err(refusal) => return Err(refusal),
-        }
+    for (place, sample) in samples.iter().enumerate() {
+        sample.labels(place)?;
     }
     Ok(())
 }

@@ -1,34 +1,27 @@
-use Rattle.std.proofs.Common.{◌+◌, pos, ◌+ℤ◌, neg_ℤ, sym, ◌∙◌, ap₂, arith}
-use Rattle.hadamard.proofs.Butterflies.{cross_step}
-use Rattle.hadamard.proofs.Entries.{two_le_at, read_at}
+use Rattle.std.proofs.Common.{◌≡◌, ◌+◌, ◌++◌, length, sum_by, sym, ap, ◌∙◌, ◌+ℤ◌, neg_ℤ, arith}
+use Rattle.hadamard.proofs.Butterflies.{pair_small, halves_step}
 use Rattle.hadamard.proofs.cross.Goals as goal
 
 pub butterfly-sum-requires : goal.butterfly-sum-requires
 butterfly-sum-requires g c =
     let size = g.R.Reading.size in
-    let k = c.loop-k.k in
-    let h = c.args.half in
-    let cur = c.loop-k.list in
-    let x = read_at size cur k c.index-list-k.result 0 (omega arith) c.index-list-k.is in
-    let y = read_at size cur (h + k) c.index-list-half.result 0 (omega arith) c.index-list-half.is in
-    let a = (c.loop-k.invariant.lower k (omega arith) (omega arith)).1 in
-    let b = (c.loop-k.invariant.upper k (omega arith) (omega arith)).1 in
-    omega (arith, two_le_at size c.args.list.now k (h + k) c.index-list-k.result (omega arith) (omega arith))
+    let s = c.split_at_mut-low.ensures in
+    let old = c.split_at_mut-low.result.0.now ++ c.split_at_mut-low.result.1.now in
+    let long : length old ≡ c.args.half + c.args.half = sym (ap length s.value) ∙ c.requires.long in
+    let total = ap (sum_by size) s.value in
+    let same = ap size c.index-low-k.is in
+    omega (arith, pair_small g.R.Reading.weight size c.args.half c.loop-k.k old c.loop-k.low c.loop-k.high (omega arith) (omega arith) (omega arith) c.index-low-k.result c.index-high-k.result c.index-low-k.is c.index-high-k.is c.loop-k.invariant long)
 
 pub loop-k-preserved : goal.loop-k-preserved
 loop-k-preserved g c =
     let weight = g.R.Reading.weight in
     let size = g.R.Reading.size in
-    let k = c.loop-k.k in
-    let h = c.args.half in
-    let cur = c.loop-k.list in
-    let old = c.args.list.now in
-    let x = sym (read_at weight cur k c.index-list-k.result (pos 0) (omega arith) c.index-list-k.is) ∙ (c.loop-k.invariant.lower k (omega arith) (omega arith)).0 in
-    let y = sym (read_at weight cur (h + k) c.index-list-half.result (pos 0) (omega arith) c.index-list-half.is) ∙ (c.loop-k.invariant.upper k (omega arith) (omega arith)).0 in
-    let p = sym (read_at size cur k c.index-list-k.result 0 (omega arith) c.index-list-k.is) ∙ (c.loop-k.invariant.lower k (omega arith) (omega arith)).1 in
-    let q = sym (read_at size cur (h + k) c.index-list-half.result 0 (omega arith) c.index-list-half.is) ∙ (c.loop-k.invariant.upper k (omega arith) (omega arith)).1 in
-    let s = c.butterfly-sum.ensures in
-    cross_step weight size h k old cur (omega arith) c.loop-k-test.true c.loop-k.invariant c.butterfly-sum.result.0 c.butterfly-sum.result.1
-    (s.sum ∙ ap₂ (λ u v. u +ℤ v) x y)
-    (s.difference ∙ ap₂ (λ u v. u +ℤ neg_ℤ v) x y)
-    (omega (arith, s.sum_size)) (omega (arith, s.difference_size))
+    let s = c.split_at_mut-low.ensures in
+    let b = c.butterfly-sum.ensures in
+    let e = sym c.index-low-k.is in
+    let w = ap weight e in
+    let z = ap size e in
+    halves_step weight size c.args.half c.loop-k.k (c.split_at_mut-low.result.0.now ++ c.split_at_mut-low.result.1.now) c.loop-k.low c.loop-k.high (omega arith) (omega arith) (omega arith) c.index-low-k.result c.index-high-k.result c.index-low-k.is c.index-high-k.is c.loop-k.invariant c.butterfly-sum.result.0 c.butterfly-sum.result.1
+    (b.sum ∙ ap (λ u. u +ℤ weight c.index-high-k.result) w)
+    (b.difference ∙ ap (λ u. u +ℤ neg_ℤ (weight c.index-high-k.result)) w)
+    (omega (arith, b.sum_size)) (omega (arith, b.difference_size))

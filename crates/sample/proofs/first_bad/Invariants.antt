@@ -3,5 +3,5 @@ use Rattle.sample.specs.declared.Sample.{Sample}
 use Rattle.sample.specs.Samples.{first_fault, Good}
 use Rattle.sample.proofs.first_bad.Given as goal
 
-abbrev pub invariant-loop-i : goal.invariant-loop-i
-invariant-loop-i l = (first_fault l.i (drop l.i l.samples) ≡ first_fault 0 l.samples) × ((k : ℕ) (x : Sample) → k < l.i → Good (get_or l.samples k x))
+abbrev pub invariant-loop-place : goal.invariant-loop-place
+invariant-loop-place l = (first_fault l.place (drop l.place l.samples) ≡ first_fault 0 l.samples) × ((k : ℕ) (x : Sample) → k < l.place → Good (get_or l.samples k x))
