@@ -12,6 +12,7 @@ use Rattle.hadamard.specs.Stages.{Crossed, Staged, Blocked, block}
 use Rattle.hadamard.proofs.Entries.{at_take, at_drop}
 use Rattle.hadamard.proofs.Signs.{ones_0}
 use Rattle.hadamard.proofs.Halves.{front_total, back_total, front_spectrum, back_spectrum}
+use Rattle.reading.specs.declared.Reading.{Ghosts as Kind}
 
 -- block b of n ends within the list
 pub fits : (width n b m : ℕ) → b < n → m ≡ n * width → b * width + width ≤ m
@@ -43,12 +44,12 @@ module _ {R : Type 0} (width k : ℕ) (xs ys : List R) (long : length ys ≡ wid
   block_above b l = ap (take width) (drop-put_mid (k * width) width xs ys (b * width) (before width k b l) within long)
 
 -- one more block is crossed
-pub stage_step : {R : Type 0} (weight : R → ℤ) (size : R → ℕ) (h n k : ℕ) (old cur ys : List R) → length ys ≡ h + h → k * (h + h) ≤ length cur → k < n → Staged weight size h n k old cur → Crossed weight size h h (block (h + h) k cur) ys → Staged weight size h n (k + 1) old (put_mid (k * (h + h)) (h + h) cur ys)
-stage_step weight size h n k old cur ys long within low inv new = record {
+pub stage_step : {R : Type 0} (kind : Kind R) (h n k : ℕ) (old cur ys : List R) → length ys ≡ h + h → k * (h + h) ≤ length cur → k < n → Staged kind h n k old cur → Crossed kind h h (block (h + h) k cur) ys → Staged kind h n (k + 1) old (put_mid (k * (h + h)) (h + h) cur ys)
+stage_step kind h n k old cur ys long within low inv new = record {
   crossed = below_more _ _
-      (λ b l. subst (λ (z : List _). Crossed weight size h h (block (h + h) b old) z) (sym (block_below (h + h) k cur ys long within b l)) (inv.crossed b l))
-      (subst (λ (z : List _). Crossed weight size h h (block (h + h) k old) z) (sym (block_same (h + h) k cur ys long within))
-      (subst (λ (z : List _). Crossed weight size h h z ys) (inv.rest k (omega arith) low) new));
+      (λ b l. subst (λ (z : List _). Crossed kind h h (block (h + h) b old) z) (sym (block_below (h + h) k cur ys long within b l)) (inv.crossed b l))
+      (subst (λ (z : List _). Crossed kind h h (block (h + h) k old) z) (sym (block_same (h + h) k cur ys long within))
+      (subst (λ (z : List _). Crossed kind h h z ys) (inv.rest k (omega arith) low) new));
   rest = λ b a l. block_above (h + h) k cur ys long within b (omega arith) ∙ inv.rest b (omega arith) l;
 }
 
@@ -73,7 +74,7 @@ even_odd P n p q c l =
     ]
 
 -- one stride over all blocks
-module _ {R : Type 0} (weight : R → ℤ) (size : R → ℕ) (t h n : ℕ) (old cur new : List R) (power : h ≡ 2 ^ t) (long : length cur ≡ n * (h + h)) (same : length new ≡ length cur) (inv : Blocked weight size (h + h) n old cur) (staged : Staged weight size h n n cur new) where
+module _ {R : Type 0} (kind : Kind R) (t h n : ℕ) (old cur new : List R) (power : h ≡ 2 ^ t) (long : length cur ≡ n * (h + h)) (same : length new ≡ length cur) (inv : Blocked kind (h + h) n old cur) (staged : Staged kind h n n cur new) where
   module _ (b : ℕ) (l : b < n) where
     was_long : length (block (h + h) b cur) ≡ h + h
     was_long = block_long (h + h) n b cur l long
@@ -81,45 +82,45 @@ module _ {R : Type 0} (weight : R → ℤ) (size : R → ℕ) (t h n : ℕ) (old
     is_long : length (block (h + h) b new) ≡ length (block (h + h) b cur)
     is_long = block_long (h + h) n b new l (same ∙ long) ∙ sym was_long
 
-    front_weighs : (i : ℕ) → i < h → spectrum (map weight (block h (b + b) new)) i ≡ spectrum (map weight old) ((b + b) * h + i)
+    front_weighs : (i : ℕ) → i < h → spectrum (map kind.weight (block h (b + b) new)) i ≡ spectrum (map kind.weight old) ((b + b) * h + i)
     front_weighs i hi =
-        ap (λ z. spectrum (map weight z) i) (sym (block-front h b new))
-        ∙ front_spectrum weight size h (block (h + h) b cur) (block (h + h) b new) was_long is_long (staged.crossed b l) t power i hi
+        ap (λ z. spectrum (map kind.weight z) i) (sym (block-front h b new))
+        ∙ front_spectrum kind h (block (h + h) b cur) (block (h + h) b new) was_long is_long (staged.crossed b l) t power i hi
         ∙ inv.weighs b i l (omega arith)
-        ∙ ap (λ m. spectrum (map weight old) (m + i)) (twice b h)
+        ∙ ap (λ m. spectrum (map kind.weight old) (m + i)) (twice b h)
 
-    back_weighs : (i : ℕ) → i < h → spectrum (map weight (block h (b + b + 1) new)) i ≡ spectrum (map weight old) ((b + b + 1) * h + i)
+    back_weighs : (i : ℕ) → i < h → spectrum (map kind.weight (block h (b + b + 1) new)) i ≡ spectrum (map kind.weight old) ((b + b + 1) * h + i)
     back_weighs i hi =
         let e : b * (h + h) + (h + i) ≡ (b + b + 1) * h + i = omega (arith, twice b h, add-mul (b + b) 1 h) in
-        ap (λ z. spectrum (map weight z) i) (sym (block_back h b new))
-        ∙ back_spectrum weight size h (block (h + h) b cur) (block (h + h) b new) was_long is_long (staged.crossed b l) t power i hi
+        ap (λ z. spectrum (map kind.weight z) i) (sym (block_back h b new))
+        ∙ back_spectrum kind h (block (h + h) b cur) (block (h + h) b new) was_long is_long (staged.crossed b l) t power i hi
         ∙ inv.weighs b (h + i) l (omega arith)
-        ∙ ap (spectrum (map weight old)) e
+        ∙ ap (spectrum (map kind.weight old)) e
 
-    front_small : sum_by size (block h (b + b) new) ≤ sum_by size old
+    front_small : sum_by kind.size (block h (b + b) new) ≤ sum_by kind.size old
     front_small =
-        let e = ap (sum_by size) (block-front h b new) in
-        omega (arith, front_total weight size h (block (h + h) b cur) (block (h + h) b new) was_long is_long (staged.crossed b l), inv.small b l)
+        let e = ap (sum_by kind.size) (block-front h b new) in
+        omega (arith, front_total kind h (block (h + h) b cur) (block (h + h) b new) was_long is_long (staged.crossed b l), inv.small b l)
 
-    back_small : sum_by size (block h (b + b + 1) new) ≤ sum_by size old
+    back_small : sum_by kind.size (block h (b + b + 1) new) ≤ sum_by kind.size old
     back_small =
-        let e = ap (sum_by size) (block_back h b new) in
-        omega (arith, back_total weight size h (block (h + h) b cur) (block (h + h) b new) was_long is_long (staged.crossed b l), inv.small b l)
+        let e = ap (sum_by kind.size) (block_back h b new) in
+        omega (arith, back_total kind h (block (h + h) b cur) (block (h + h) b new) was_long is_long (staged.crossed b l), inv.small b l)
 
-  pub stride : Blocked weight size h (n * 2) old new
+  pub stride : Blocked kind h (n * 2) old new
   stride = record {
-    weighs = λ b i l hi. even_odd (λ c. (i : ℕ) → i < h → spectrum (map weight (block h c new)) i ≡ spectrum (map weight old) (c * h + i)) n front_weighs back_weighs b l i hi;
-    small = even_odd (λ c. sum_by size (block h c new) ≤ sum_by size old) n front_small back_small;
+    weighs = λ b i l hi. even_odd (λ c. (i : ℕ) → i < h → spectrum (map kind.weight (block h c new)) i ≡ spectrum (map kind.weight old) (c * h + i)) n front_weighs back_weighs b l i hi;
+    small = even_odd (λ c. sum_by kind.size (block h c new) ≤ sum_by kind.size old) n front_small back_small;
   }
 
 -- one block, the list
-pub blocked_start : {R : Type 0} (weight : R → ℤ) (size : R → ℕ) (xs : List R) → Blocked weight size (length xs) 1 xs xs
-blocked_start weight size xs =
+pub blocked_start : {R : Type 0} (kind : Kind R) (xs : List R) → Blocked kind (length xs) 1 xs xs
+blocked_start kind xs =
     let whole : take (length xs) xs ≡ xs = take_all (length xs) xs (omega arith) in
     let at : (b : ℕ) → b < 1 → block (length xs) b xs ≡ xs = λ b l. let z : b * length xs ≡ 0 = (let y : b ≡ 0 = omega arith in ap (λ m. m * length xs) y ∙ omega arith) in ap (λ m. take (length xs) (drop m xs)) z ∙ whole in
     record {
-      weighs = λ b i l hi. let z : i ≡ b * length xs + i = (let y : b ≡ 0 = omega arith in let w : b * length xs ≡ 0 = ap (λ m. m * length xs) y ∙ omega arith in omega arith) in ap (λ z. spectrum (map weight z) i) (at b l) ∙ ap (spectrum (map weight xs)) z;
-      small = λ b l. let e = ap (sum_by size) (at b l) in omega arith;
+      weighs = λ b i l hi. let z : i ≡ b * length xs + i = (let y : b ≡ 0 = omega arith in let w : b * length xs ≡ 0 = ap (λ m. m * length xs) y ∙ omega arith in omega arith) in ap (λ z. spectrum (map kind.weight z) i) (at b l) ∙ ap (spectrum (map kind.weight xs)) z;
+      small = λ b l. let e = ap (sum_by kind.size) (at b l) in omega arith;
     }
 
 -- a list of one entry is its own transform
@@ -134,7 +135,7 @@ single_size size (x ∷ []) e = omega arith
 single_size size (x ∷ (y ∷ ys)) e = absurd (omega arith)
 
 -- blocks of one entry: the transform is done
-module _ {R : Type 0} (weight : R → ℤ) (size : R → ℕ) (n : ℕ) (old new : List R) (long : length old ≡ n) (same : length new ≡ length old) (inv : Blocked weight size 1 n old new) where
+module _ {R : Type 0} (kind : Kind R) (n : ℕ) (old new : List R) (long : length old ≡ n) (same : length new ≡ length old) (inv : Blocked kind 1 n old new) where
   held : {Y : Type 0} (f : R → Y) (e : Y) (i : ℕ) → get_or (map f new) i e ≡ get_or (map f (block 1 i new)) 0 e
   held f e i =
       let z : i ≡ i * 1 + 0 = omega arith in
@@ -143,20 +144,20 @@ module _ {R : Type 0} (weight : R → ℤ) (size : R → ℕ) (n : ℕ) (old new
   one_long : (i : ℕ) → i < n → length (block 1 i new) ≡ 1
   one_long i l = block_long 1 n i new l (omega arith)
 
-  entry_weighs : (i : ℕ) → i < n → weight_at weight new i ≡ spectrum (map weight old) i
+  entry_weighs : (i : ℕ) → i < n → weight_at kind.weight new i ≡ spectrum (map kind.weight old) i
   entry_weighs i l =
       let z : i * 1 + 0 ≡ i = omega arith in
-      held weight (pos 0) i
-      ∙ single_weight (map weight (block 1 i new)) (length-map (block 1 i new) weight ∙ one_long i l)
+      held kind.weight (pos 0) i
+      ∙ single_weight (map kind.weight (block 1 i new)) (length-map (block 1 i new) kind.weight ∙ one_long i l)
       ∙ inv.weighs i 0 l (omega arith)
-      ∙ ap (spectrum (map weight old)) z
+      ∙ ap (spectrum (map kind.weight old)) z
 
-  pub blocked_end : Transformed weight size old new
+  pub blocked_end : Transformed kind old new
   blocked_end = record {
-    weights = fill_by_all (spectrum (map weight old)) (map weight new) (length (map weight old)) (pos 0)
-        (length-map new weight ∙ same ∙ sym (length-map old weight))
-        (λ k l. let h = length-map old weight in entry_weighs k (omega arith));
+    weights = fill_by_all (spectrum (map kind.weight old)) (map kind.weight new) (length (map kind.weight old)) (pos 0)
+        (length-map new kind.weight ∙ same ∙ sym (length-map old kind.weight))
+        (λ k l. let h = length-map old kind.weight in entry_weighs k (omega arith));
     small = λ i l.
-        let e = held size 0 i in
-        omega (arith, single_size size (block 1 i new) (one_long i (omega arith)), inv.small i (omega arith));
+        let e = held kind.size 0 i in
+        omega (arith, single_size kind.size (block 1 i new) (one_long i (omega arith)), inv.small i (omega arith));
   }

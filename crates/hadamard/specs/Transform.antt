@@ -5,6 +5,7 @@ use Rattle.code.specs.declared.refusal.Refusal.{Refusal}
 use Rattle.code.specs.declared.refusal.Refusal.TheVariants.{ListNotPower, ListTotalTooLarge}
 use Rattle.code.specs.Limits.{sum_limit}
 use Rattle.code.specs.Words.{odd, negated_if}
+use Rattle.reading.specs.declared.Reading.{Ghosts as Kind}
 
 -- the sum of f at the numbers below n
 abbrev pub summed : ℕ → (ℕ → ℤ) → ℤ
@@ -31,9 +32,9 @@ abbrev pub size_at : {R : Type 0} → (R → ℕ) → List R → ℕ → ℕ
 size_at size xs i = slice_index (map size xs) i
 
 -- the new weights are the transform of the old, and no new size exceeds the total of the old
-pub record Transformed {R : Type 0} (weight : R → ℤ) (size : R → ℕ) (old new : List R) : Type 0 where
-  pub weights : map weight new ≡ sylvester (map weight old)
-  pub small : (i : ℕ) → i < length old → size_at size new i ≤ sum_by size old
+pub record Transformed {R : Type 0} (kind : Kind R) (old new : List R) : Type 0 where
+  pub weights : map kind.weight new ≡ sylvester (map kind.weight old)
+  pub small : (i : ℕ) → i < length old → size_at kind.size new i ≤ sum_by kind.size old
 
 -- the largest exponent of a list's length
 abbrev pub max_exponent : ℕ

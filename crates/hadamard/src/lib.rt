@@ -29,7 +29,7 @@ pub fn butterfly<R: Reading>(a: R, b: R) -> (R, R)
 fn cross<R: Reading>(list: &mut [R], half: usize)
     requires long { length list.old ≡ half + half }
     requires small { sum_by R.Reading.size list.old ≤ sum_limit }
-    ensures { Crossed R.Reading.weight R.Reading.size half half list.old list.new }
+    ensures { Crossed R.Reading half half list.old list.new }
 {
     let (low, high) = list.split_at_mut(half);
     for (k, x) in low.iter_mut().enumerate() {
@@ -44,7 +44,7 @@ fn cross<R: Reading>(list: &mut [R], half: usize)
 fn cross_blocks<R: Reading>(list: &mut [R], half: usize, blocks: usize)
     requires long { length list.old ≡ blocks * (half + half) }
     requires small { (b : ℕ) → b < blocks → sum_by R.Reading.size (block (half + half) b list.old) ≤ sum_limit }
-    ensures { Staged R.Reading.weight R.Reading.size half blocks blocks list.old list.new }
+    ensures { Staged R.Reading half blocks blocks list.old list.new }
 {
     for b in 0..blocks {
         let size = half + half;
@@ -58,7 +58,7 @@ fn cross_blocks<R: Reading>(list: &mut [R], half: usize, blocks: usize)
 fn stage<R: Reading>(list: &mut [R], half: usize, blocks: usize)
     requires long { length list.old ≡ blocks * (half + half) }
     requires small { (b : ℕ) → b < blocks → sum_by R.Reading.size (block (half + half) b list.old) ≤ sum_limit }
-    ensures { Staged R.Reading.weight R.Reading.size half blocks blocks list.old list.new }
+    ensures { Staged R.Reading half blocks blocks list.old list.new }
 {
     match half {
         1 => cross_blocks(list, 1, blocks),
@@ -73,7 +73,7 @@ fn stage<R: Reading>(list: &mut [R], half: usize, blocks: usize)
 fn stages<R: Reading>(list: &mut [R], t: usize)
     requires long { length list.old ≡ 2 ^ t }
     requires small { sum_by R.Reading.size list.old ≤ sum_limit }
-    ensures { Transformed R.Reading.weight R.Reading.size list.old list.new }
+    ensures { Transformed R.Reading list.old list.new }
 {
     let mut half = list.len();
     let mut blocks = 1;
@@ -121,7 +121,7 @@ fn check<R: Reading>(list: &[R]) -> Result<usize, Refusal>
 // The list has 2^t readings, t from 0 to 16, whose sizes total at most 2^28; any other is refused and left as it was.
 pub fn transform<R: Reading>(list: &mut [R]) -> Result<(), Refusal>
     ensures value { result ≡ verdict (length list.old) (sum_by R.Reading.size list.old) }
-    ensures list { elim result [ Ok u ↦ Transformed R.Reading.weight R.Reading.size list.old list.new | Err e ↦ list.new ≡ list.old ] }
+    ensures list { elim result [ Ok u ↦ Transformed R.Reading list.old list.new | Err e ↦ list.new ≡ list.old ] }
 {
     let t = check(list)?;
     stages(list, t);

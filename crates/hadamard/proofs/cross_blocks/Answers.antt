@@ -41,6 +41,6 @@ loop-b-preserved g c =
     let w = fits (h + h) c.args.blocks k (length c.args.list.now) c.loop-b-test.true c.requires.long in
     let s : k * (h + h) + (h + h) - k * (h + h) ≡ h + h = omega arith in
     let long = c.cross.auto.list ∙ ap (λ m. length (take m (drop (k * (h + h)) cur))) s ∙ block_long (h + h) c.args.blocks k cur c.loop-b-test.true (c.loop-b.auto.list ∙ c.requires.long) in
-    let crossed = subst (λ m. Crossed weight size h h (take m (drop (k * (h + h)) cur)) ys) s c.cross.ensures in
-    subst (λ m. Staged weight size h c.args.blocks (k + 1) c.args.list.now (put_mid (k * (h + h)) m cur ys)) (sym s)
-    (stage_step weight size h c.args.blocks k c.args.list.now cur ys long (omega (arith, c.loop-b.auto.list)) c.loop-b-test.true c.loop-b.invariant crossed)
+    let crossed = subst (λ m. Crossed g.R.Reading h h (take m (drop (k * (h + h)) cur)) ys) s c.cross.ensures in
+    subst (λ m. Staged g.R.Reading h c.args.blocks (k + 1) c.args.list.now (put_mid (k * (h + h)) m cur ys)) (sym s)
+    (stage_step g.R.Reading h c.args.blocks k c.args.list.now cur ys long (omega (arith, c.loop-b.auto.list)) c.loop-b-test.true c.loop-b.invariant crossed)

@@ -7,7 +7,7 @@ use Rattle.hadamard.proofs.stages.Goals as goal
 pub loop-init : goal.loop-init
 loop-init g c =
     let z : c.args.t ≡ c.args.t - 0 = omega arith in
-    (c.requires.long ∙ ap (λ k. 2 ^ k) z, omega arith, blocked_start g.R.Reading.weight g.R.Reading.size c.args.list.now)
+    (c.requires.long ∙ ap (λ k. 2 ^ k) z, omega arith, blocked_start g.R.Reading c.args.list.now)
 
 pub stage-requires : goal.stage-requires
 stage-requires g c =
@@ -36,12 +36,12 @@ loop-preserved g c =
     let h = c.loop.half / 2 in
     let half = halved c.loop.half (c.args.t - c.loop.counter) c.loop.invariant.0 (λ e. omega arith) in
     let long : length cur ≡ n * (h + h) = c.loop.invariant.1 ∙ ap (λ m. n * m) half.0 in
-    let inv = subst (λ (m : ℕ). Blocked weight size m n old cur) half.0 c.loop.invariant.2 in
+    let inv = subst (λ (m : ℕ). Blocked g.R.Reading m n old cur) half.0 c.loop.invariant.2 in
     let less : c.args.t - c.loop.counter - 1 ≡ c.args.t - (c.loop.counter + 1) = omega arith in
     let two : h + h ≡ 2 * h = omega arith in (
       half.1 ∙ ap (λ k. 2 ^ k) less,
       c.stage.auto.list ∙ long ∙ ap (λ m. n * m) two ∙ sym (mul_assoc n 2 h),
-      stride weight size (c.args.t - c.loop.counter - 1) h n old cur c.stage.new.list half.1 long c.stage.auto.list inv c.stage.ensures,
+      stride g.R.Reading (c.args.t - c.loop.counter - 1) h n old cur c.stage.new.list half.1 long c.stage.auto.list inv c.stage.ensures,
     )
 
 pub returns : goal.returns
@@ -54,4 +54,4 @@ returns g c =
     let z : c.args.t - c.loop.counter ≡ 0 = omega arith in
     let one : c.loop.half ≡ 1 = c.loop.invariant.0 ∙ ap (λ k. 2 ^ k) z in
     let long : length old ≡ n = sym c.loop.auto.list ∙ c.loop.invariant.1 ∙ ap (λ m. n * m) one ∙ omega arith in
-    blocked_end weight size n old cur long c.loop.auto.list (subst (λ (m : ℕ). Blocked weight size m n old cur) one c.loop.invariant.2)
+    blocked_end g.R.Reading n old cur long c.loop.auto.list (subst (λ (m : ℕ). Blocked g.R.Reading m n old cur) one c.loop.invariant.2)
