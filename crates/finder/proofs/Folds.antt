@@ -12,48 +12,49 @@ use Rattle.hadamard.specs.Transform.{weight_at}
 use Rattle.hadamard.proofs.Entries.{same_at, other_at}
 use Rattle.finder.specs.Fold.{column, sum_of_slot}
 use Rattle.finder.specs.Gather.{column_below}
+use Rattle.reading.specs.declared.Reading.{Ghosts as Kind}
 
 -- each entry weighs the sum of the first n readings whose slot it is, and no size was above the limit
-abbrev pub Scattered : {R : Type 0} (weight : R → ℤ) (size : R → ℕ) (slots : List ℕ) (word list : List R) (n : ℕ) → Type 0
-Scattered weight size slots word list n =
-    ((x : ℕ) → x < length list → weight_at weight list x ≡ sum_of_slot (λ k. get_or slots k 0) (weight_at weight word) n x)
-    × (sum_by size list ≤ n * size_limit)
+abbrev pub Scattered : {R : Type 0} (kind : Kind R) (slots : List ℕ) (word list : List R) (n : ℕ) → Type 0
+Scattered kind slots word list n =
+    ((x : ℕ) → x < length list → weight_at kind.weight list x ≡ sum_of_slot (λ k. get_or slots k 0) (weight_at kind.weight word) n x)
+    × (sum_by kind.size list ≤ n * size_limit)
 
 -- one reading more
-module _ {R : Type 0} (weight : R → ℤ) (size : R → ℕ) (slots : List ℕ) (word cur : List R) (i : ℕ) where
+module _ {R : Type 0} (kind : Kind R) (slots : List ℕ) (word cur : List R) (i : ℕ) where
   abbrev Sums : List R → ℕ → Type 0
-  Sums xs n = (x : ℕ) → x < length xs → weight_at weight xs x ≡ sum_of_slot (λ k. get_or slots k 0) (weight_at weight word) n x
+  Sums xs n = (x : ℕ) → x < length xs → weight_at kind.weight xs x ≡ sum_of_slot (λ k. get_or slots k 0) (weight_at kind.weight word) n x
 
-  one_more : (x : ℕ) → sum_of_slot (λ k. get_or slots k 0) (weight_at weight word) (i + 1) x ≡ sum_of_slot (λ k. get_or slots k 0) (weight_at weight word) i x +ℤ cond (eqb (get_or slots i 0) x) (weight_at weight word i) (pos 0)
-  one_more x = ap (λ (k : ℕ). sum_of_slot (λ k. get_or slots k 0) (weight_at weight word) k x) (add-one i)
+  one_more : (x : ℕ) → sum_of_slot (λ k. get_or slots k 0) (weight_at kind.weight word) (i + 1) x ≡ sum_of_slot (λ k. get_or slots k 0) (weight_at kind.weight word) i x +ℤ cond (eqb (get_or slots i 0) x) (weight_at kind.weight word i) (pos 0)
+  one_more x = ap (λ (k : ℕ). sum_of_slot (λ k. get_or slots k 0) (weight_at kind.weight word) k x) (add-one i)
 
-  elsewhere : (x : ℕ) → (x ≡ get_or slots i 0 → ⊥) → sum_of_slot (λ k. get_or slots k 0) (weight_at weight word) i x ≡ sum_of_slot (λ k. get_or slots k 0) (weight_at weight word) (i + 1) x
+  elsewhere : (x : ℕ) → (x ≡ get_or slots i 0 → ⊥) → sum_of_slot (λ k. get_or slots k 0) (weight_at kind.weight word) i x ≡ sum_of_slot (λ k. get_or slots k 0) (weight_at kind.weight word) (i + 1) x
   elsewhere x n =
       let at = get_or slots i 0 in
-      let old = sum_of_slot (λ k. get_or slots k 0) (weight_at weight word) i in
-      sym (one_more x ∙ ap (λ z. old x +ℤ z) (cond-false (eqb at x) (weight_at weight word i) (pos 0) (ne_eqb at x (λ e. n (sym e)))) ∙ +ℤ_idr (old x))
+      let old = sum_of_slot (λ k. get_or slots k 0) (weight_at kind.weight word) i in
+      sym (one_more x ∙ ap (λ z. old x +ℤ z) (cond-false (eqb at x) (weight_at kind.weight word i) (pos 0) (ne_eqb at x (λ e. n (sym e)))) ∙ +ℤ_idr (old x))
 
   -- a slot beyond the list
   pub fold_skips : length cur ≤ get_or slots i 0 → Sums cur i → Sums cur (i + 1)
   fold_skips high inv x l = inv x l ∙ elsewhere x (omega arith)
 
   module _ (v : R) (low : get_or slots i 0 < length cur) where
-    pub fold_step : Sums cur i → weight v ≡ weight_at weight cur (get_or slots i 0) +ℤ weight_at weight word i → (x : ℕ) → x < length cur → weight_at weight (set cur (get_or slots i 0) v) x ≡ sum_of_slot (λ k. get_or slots k 0) (weight_at weight word) (i + 1) x
+    pub fold_step : Sums cur i → kind.weight v ≡ weight_at kind.weight cur (get_or slots i 0) +ℤ weight_at kind.weight word i → (x : ℕ) → x < length cur → weight_at kind.weight (set cur (get_or slots i 0) v) x ≡ sum_of_slot (λ k. get_or slots k 0) (weight_at kind.weight word) (i + 1) x
     fold_step inv is x l =
         let at = get_or slots i 0 in
-        let old = sum_of_slot (λ k. get_or slots k 0) (weight_at weight word) i in
+        let old = sum_of_slot (λ k. get_or slots k 0) (weight_at kind.weight word) i in
         ⊎_elim
         (λ (e : x ≡ at).
-        ap (λ (k : ℕ). weight_at weight (set cur at v) k) e ∙ same_at weight cur at v (pos 0) low ∙ is ∙ ap (λ z. z +ℤ weight_at weight word i) (inv at low)
-        ∙ ap (λ z. old at +ℤ z) (sym (cond-true (eqb at at) (weight_at weight word i) (pos 0) (eq-eqb at at refl)))
-        ∙ ap (λ (k : ℕ). old k +ℤ cond (eqb at k) (weight_at weight word i) (pos 0)) (sym e) ∙ sym (one_more x))
-        (λ n. other_at weight cur at x v (pos 0) n ∙ inv x l ∙ elsewhere x n)
+        ap (λ (k : ℕ). weight_at kind.weight (set cur at v) k) e ∙ same_at kind.weight cur at v (pos 0) low ∙ is ∙ ap (λ z. z +ℤ weight_at kind.weight word i) (inv at low)
+        ∙ ap (λ z. old at +ℤ z) (sym (cond-true (eqb at at) (weight_at kind.weight word i) (pos 0) (eq-eqb at at refl)))
+        ∙ ap (λ (k : ℕ). old k +ℤ cond (eqb at k) (weight_at kind.weight word i) (pos 0)) (sym e) ∙ sym (one_more x))
+        (λ n. other_at kind.weight cur at x v (pos 0) n ∙ inv x l ∙ elsewhere x n)
         (cases_eq x at)
 
-    pub total_step : (old : R) → old ≡ get_or cur (get_or slots i 0) old → (r : ℕ) → size v ≤ size old + r → r ≤ size_limit → sum_by size cur ≤ i * size_limit → sum_by size (set cur (get_or slots i 0) v) ≤ (i + 1) * size_limit
+    pub total_step : (old : R) → old ≡ get_or cur (get_or slots i 0) old → (r : ℕ) → kind.size v ≤ kind.size old + r → r ≤ size_limit → sum_by kind.size cur ≤ i * size_limit → sum_by kind.size (set cur (get_or slots i 0) v) ≤ (i + 1) * size_limit
     total_step old is r a b c =
-        let e = sum_by-set size cur (get_or slots i 0) v old low in
-        let f = ap size is in
+        let e = sum_by-set kind.size cur (get_or slots i 0) v old low in
+        let f = ap kind.size is in
         omega arith
 
 -- one entry more is blank

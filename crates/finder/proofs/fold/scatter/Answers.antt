@@ -27,10 +27,10 @@ loop-x-preserved-then-at-list g c =
     let v = c.add.result in
     let held = c.index-list-at.is ∙ ap (λ (k : ℕ). get_or cur k c.index-list-at.result) at in
     let old = read_at w cur (get_or slots i 0) c.index-list-at.result (pos 0) low held in
-    subst (λ (k : ℕ). Scattered w size slots word (set cur k v) (length (c.loop-x.yielded ++ (c.in-Some.x, c.in-Some.slot) ∷ []))) (sym at) (
-    subst (Scattered w size slots word (set cur (get_or slots i 0) v)) (sym n) (
-      λ x l. fold_step w size slots word cur i v low c.loop-x.invariant.0 (c.add.ensures.weighs ∙ ap₂ (λ a b. a +ℤ b) (sym old) (sym new)) x (simp length-set at l),
-      total_step w size slots word cur i v low c.index-list-at.result held (size x) c.add.ensures.small (omega arith) c.loop-x.invariant.1,
+    subst (λ (k : ℕ). Scattered g.R.Reading slots word (set cur k v) (length (c.loop-x.yielded ++ (c.in-Some.x, c.in-Some.slot) ∷ []))) (sym at) (
+    subst (Scattered g.R.Reading slots word (set cur (get_or slots i 0) v)) (sym n) (
+      λ x l. fold_step g.R.Reading slots word cur i v low c.loop-x.invariant.0 (c.add.ensures.weighs ∙ ap₂ (λ a b. a +ℤ b) (sym old) (sym new)) x (simp length-set at l),
+      total_step g.R.Reading slots word cur i v low c.index-list-at.result held (size x) c.add.ensures.small (omega arith) c.loop-x.invariant.1,
     ))
 
 pub loop-x-preserved : goal.loop-x-preserved
@@ -46,4 +46,4 @@ loop-x-preserved g c =
     let n : length (c.loop-x.yielded ++ (c.in-Some.x, c.in-Some.slot) ∷ []) ≡ i + 1 = length-append c.loop-x.yielded _ in
     let high : length cur ≤ get_or slots i 0 = let h = c.if-at-list.false in omega arith in
     let t = c.loop-x.invariant.1 in
-    subst (Scattered w size slots word cur) (sym n) (fold_skips w size slots word cur i high c.loop-x.invariant.0, omega arith)
+    subst (Scattered g.R.Reading slots word cur) (sym n) (fold_skips g.R.Reading slots word cur i high c.loop-x.invariant.0, omega arith)

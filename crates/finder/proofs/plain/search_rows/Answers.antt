@@ -77,8 +77,8 @@ returns g c =
     let room : length list ≡ 2 ^ length rows = long ∙ c.message_count-need.ensures in
     let most = c.requires.sized.1 in
     let small : sum_by z list ≤ sum_limit = (let t = folded.total in let u = ap (sum_by z) is in omega arith) in
-    let done : Transformed w z list final = transform_taken c.transform.result (Transformed w z list final) (λ _. final ≡ list) (length list) (sum_by z list) (length rows) c.requires.few room small c.transform.ensures.value c.transform.ensures.list in
-    let same = holds_agreements w z rows c.columns-slots.result word list final c.requires.few room (λ i l. c.columns-slots.ensures i (omega arith))
+    let done : Transformed g.R.Reading list final = transform_taken c.transform.result (Transformed g.R.Reading list final) (λ _. final ≡ list) (length list) (sum_by z list) (length rows) c.requires.few room small c.transform.ensures.value c.transform.ensures.list in
+    let same = holds_agreements g.R.Reading rows c.columns-slots.result word list final c.requires.few room (λ i l. c.columns-slots.ensures i (omega arith))
     (λ x l. at_take w (pos 0) (k - 0) mid x (omega arith) ∙ folded.sums x (omega arith) ∙ ap (λ (j : ℕ). sum_of_slot (λ i. get_or c.columns-slots.result i 0) (weight_at w word) j x) lw) done in
     let m = c.first_largest.result.message in
     let top = subst (λ (j : ℕ). Top (weight_at w final) j m) (c.transform.auto.list ∙ room) c.first_largest.ensures.top in
