@@ -1,7 +1,7 @@
 // A card whose state is known only when the program runs.
 ghost use Rattle.std.specs.Prelude.{◌≡◌, ◌∷◌, [], ◌++◌, OnErr, OnOk};
 ghost use Rattle.code.specs.declared.refusal.Section.TheVariants.{Group};
-ghost use Rattle.card.specs.Cards.{added, blank, Lawful, rows_of, Told, verdict};
+ghost use Rattle.card.specs.Cards.{added, blank, Lawful, NoneAfter, rows_of, Told, verdict};
 ghost use Rattle.card.specs.OpenCards.{card_in, open_in, open_of, section_after, shown};
 
 use crate::states::{CosetCard, FinishedCard, GroupCard, TransformCard};
@@ -64,6 +64,7 @@ impl OpenCard {
     pub fn move_on(self) -> AnyCard
         ensures card { card_in result ≡ shown self }
         ensures section { open_in result ≡ section_after (open_of self) }
+        ensures none_after { NoneAfter (shown self) (open_of self) }
     {
         match self {
             OpenCard::InGroup(card) => AnyCard::Open(OpenCard::InTransform(card.close_group())),

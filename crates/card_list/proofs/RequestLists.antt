@@ -1,14 +1,14 @@
 -- A card's own list, request by request.
-use Rattle.std.proofs.Common.{◌≡◌, ℕ, zero, suc, ◌+◌, ◌<◌, ◌≤◌, ◌≢◌, List, [], ◌∷◌, ◌++◌, length, get_or, take, set, Some, None, Ok, Err, Option, Result, sym, refl, ap, ◌∙◌, subst, ap₂, subst₂, append_assoc, add-zero, arith, length-append, get_or-set_other, get_or-set_same, below_more}
+use Rattle.std.proofs.Common.{◌≡◌, ℕ, zero, suc, ◌+◌, ◌<◌, ◌≤◌, ◌≢◌, List, [], ◌∷◌, ◌++◌, length, get_or, take, set, Some, None, Option, Result, sym, refl, ap, ◌∙◌, subst, ap₂, subst₂, append_assoc, add-zero, arith, length-append, get_or-set_other, get_or-set_same, below_more}
 use Rattle.std.proofs.lemmas.List.{append-nil, take_more, take_more_set, take-set-le, length-take-le, take_at, get_or-append-add}
 use Rattle.code.specs.declared.refusal.Section.{Section}
-use Rattle.code.specs.declared.refusal.Section.TheVariants.{Group, Transform, Coset}
+use Rattle.code.specs.declared.refusal.Section.TheVariants.{Group}
 use Rattle.code.specs.declared.refusal.Refusal.{Refusal}
 use Rattle.card_list.specs.declared.requests.Request.{Request}
 use Rattle.card_list.specs.declared.requests.Request.TheVariants.{AddRow, MoveOn}
 use Rattle.card_list.specs.declared.requests.Answer.{Answer}
 use Rattle.card_list.specs.declared.requests.Answer.TheVariants.{Taken, Refused, Closed}
-use Rattle.card.specs.Cards.{Card, RowTold, Told, added, blank, pushed, rows_of, section_of}
+use Rattle.card.specs.Cards.{Card, RowTold, Told, blank, rows_of, section_of}
 use Rattle.card_list.specs.Requests.{View, Due, DueIn, DueAt, OwnList, afterwards, answered, card_after, card_from, moves, next_open, open_after, put_into, row_taken, taken, taken_since, view_after}
 
 -- ---- one row
@@ -24,53 +24,9 @@ due_told k s row r t = record {
   taken = λ h f out good. ap answered (t.taken h f out good);
 }
 
--- the view of a card with a section open
-abbrev pub shown : Section → Card → View
-shown s k = record { len = k.len; open_section = Some s; here = section_of k s; all = rows_of k }
-
--- no section after this one has rows
-abbrev pub Last : Card → Section → Type 0
-Last k Group = (k.transform ≡ []) × (k.coset ≡ [])
-Last k Transform = k.coset ≡ []
-Last k Coset = Unit {0}
-
-pub none_taken : (n : ℕ) (xs : List ℕ) → n ≡ 0 → take n xs ≡ []
-none_taken zero xs e = refl
-none_taken (suc n) xs e = absurd (omega arith)
-
-pub rows_pushed : (k : Card) (s : Section) (row : ℕ) → Last k s → rows_of (pushed k s row) ≡ rows_of k ++ row ∷ []
-rows_pushed k Group row (et, ec) =
-    ap₂ (λ (x y : List ℕ). (k.group ++ row ∷ []) ++ (x ++ y)) et ec ∙ append-nil (k.group ++ row ∷ [])
-    ∙ sym (ap₂ (λ (x y : List ℕ). (k.group ++ (x ++ y)) ++ row ∷ []) et ec ∙ ap (λ (l : List ℕ). l ++ row ∷ []) (append-nil k.group))
-rows_pushed k Transform row ec =
-    ap (λ (y : List ℕ). k.group ++ ((k.transform ++ row ∷ []) ++ y)) ec ∙ ap (λ (l : List ℕ). k.group ++ l) (append-nil (k.transform ++ row ∷ []))
-    ∙ sym (append_assoc k.group k.transform (row ∷ []))
-    ∙ sym (ap (λ (y : List ℕ). (k.group ++ (k.transform ++ y)) ++ row ∷ []) ec ∙ ap (λ (l : List ℕ). (k.group ++ l) ++ row ∷ []) (append-nil k.transform))
-rows_pushed k Coset row h = simp append_assoc
-
-section_pushed : (k : Card) (s : Section) (row : ℕ) → section_of (pushed k s row) s ≡ section_of k s ++ row ∷ []
-section_pushed k Group row = refl
-section_pushed k Transform row = refl
-section_pushed k Coset row = refl
-
-len_pushed : (k : Card) (s : Section) (row : ℕ) → (pushed k s row).len ≡ k.len
-len_pushed k Group row = refl
-len_pushed k Transform row = refl
-len_pushed k Coset row = refl
-
-pub same_view : {n n' : ℕ} {o o' : Option Section} {h h' a a' : List ℕ} → n ≡ n' → o ≡ o' → h ≡ h' → a ≡ a'
+same_view : {n n' : ℕ} {o o' : Option Section} {h h' a a' : List ℕ} → n ≡ n' → o ≡ o' → h ≡ h' → a ≡ a'
     → ◌≡◌ {A = View} (record { len = n; open_section = o; here = h; all = a }) (record { len = n'; open_section = o'; here = h'; all = a' })
 same_view p q r t i = record { len = p i; open_section = q i; here = r i; all = t i }
-
-pub shown-added : (k : Card) (s : Section) (row : ℕ) (r : Result (Unit {0}) Refusal) → Last k s
-    → shown s (added r k s row) ≡ afterwards (shown s k) (AddRow row) (answered r)
-shown-added k s row (Ok u) l = same_view (len_pushed k s row) refl (section_pushed k s row) (rows_pushed k s row l)
-shown-added k s row (Err e) l = same_view refl refl (sym (append-nil (section_of k s))) (sym (append-nil (rows_of k)))
-
--- the card with the row put in, where it was taken
-pub put_added : (k : Card) (s : Section) (row : ℕ) (r : Result (Unit {0}) Refusal) → added r k s row ≡ put_into (Some s) k (row_taken (AddRow row) (answered r))
-put_added k s row (Ok u) = refl
-put_added k s row (Err e) = refl
 
 -- ---- one request more in the list
 

@@ -7,10 +7,9 @@ use Rattle.card_list.specs.declared.requests.Request.{Request}
 use Rattle.card_list.specs.declared.requests.Request.TheVariants.{AddRow, MoveOn}
 use Rattle.card_list.specs.declared.requests.Answer.{Answer}
 use Rattle.card_list.specs.declared.requests.Answer.TheVariants.{Taken, Moved, Refused, Closed}
-use Rattle.card_list.specs.declared.requests.AnyCard.{AnyCard}
-use Rattle.card_list.specs.declared.requests.AnyCard.TheVariants.{InGroup, InTransform, InCoset, Finished}
-use Rattle.card.specs.Cards.{Card, RowTold, blank, pushed, rows_of}
-use Rattle.card.specs.Tables.{card_of}
+use Rattle.card.specs.declared.open.AnyCard.{AnyCard}
+use Rattle.card.specs.Cards.{Card, RowTold, blank, pushed, rows_of, section_of}
+use Rattle.card.specs.OpenCards.{card_in, open_in, section_after}
 
 -- ---- what requests and answers say
 
@@ -68,9 +67,7 @@ OwnList n requests answers = (i : ℕ) → i < length requests → DueAt n reque
 
 -- the section that is open after a move
 abbrev pub next_open : Option Section → Option Section
-next_open (Some Group) = Some Transform
-next_open (Some Transform) = Some Coset
-next_open (Some Coset) = None
+next_open (Some s) = section_after s
 next_open None = None
 
 -- the card with rows put last into the open section
@@ -99,21 +96,16 @@ pub record View : Type 0 where
   pub here : List ℕ
   pub all : List ℕ
 
+-- the rows of a section, where one is open
+abbrev pub rows_in : Option Section → Card → List ℕ
+rows_in (Some s) k = section_of k s
+rows_in None k = []
+
 abbrev pub view_of : AnyCard → View
-view_of (InGroup k) = record { len = (card_of k.table).len; open_section = Some Group; here = (card_of k.table).group; all = rows_of (card_of k.table) }
-view_of (InTransform k) = record { len = (card_of k.table).len; open_section = Some Transform; here = (card_of k.table).transform; all = rows_of (card_of k.table) }
-view_of (InCoset k) = record { len = (card_of k.table).len; open_section = Some Coset; here = (card_of k.table).coset; all = rows_of (card_of k.table) }
-view_of (Finished k) = record { len = (card_of k.table).len; open_section = None; here = []; all = rows_of (card_of k.table) }
+view_of c = record { len = (card_in c).len; open_section = open_in c; here = rows_in (open_in c) (card_in c); all = rows_of (card_in c) }
 
 abbrev pub DueIn : View → Request → Answer → Type 0
 DueIn v r a = Due v.len v.open_section v.here v.all r a
-
--- the card, whatever its state
-abbrev pub card_in : AnyCard → Card
-card_in (InGroup k) = card_of k.table
-card_in (InTransform k) = card_of k.table
-card_in (InCoset k) = card_of k.table
-card_in (Finished k) = card_of k.table
 
 -- the view after a request with that answer
 abbrev pub afterwards : View → Request → Answer → View

@@ -1,10 +1,12 @@
 // A list of requests to a card just started, and the answers to it.
-ghost use Rattle.std.specs.Prelude.{◌≡◌, ◌<◌, ◌≤◌, length, drop, IfOk, MatchResult};
+ghost use Rattle.std.specs.Prelude.{◌≡◌, ◌<◌, ◌≤◌, length, drop, Some, IfOk, MatchResult};
 ghost use Rattle.code.specs.declared.refusal.Refusal.TheVariants.{OutputShort};
-ghost use Rattle.card.specs.Tables.{card_of};
-ghost use Rattle.card_list.specs.Requests.{afterwards, answered, card_after, card_in, DueIn, OwnList, put_into, row_taken, view_of};
+ghost use Rattle.card.specs.declared.open.AnyCard.TheVariants.{Open};
+ghost use Rattle.card.specs.OpenCards.{card_in, open_in, open_of, shown};
+ghost use Rattle.card_list.specs.Requests.{afterwards, answered, card_after, DueIn, OwnList, put_into, row_taken, view_of};
 
-use card::states::{CosetCard, FinishedCard, GroupCard, TransformCard};
+use card::open::{AnyCard, OpenCard};
+use card::states::FinishedCard;
 use code::length::WordLength;
 use code::refusal::Refusal;
 
@@ -16,6 +18,7 @@ pub enum Request {
 }
 
 // What a card answers. A finished card takes neither rows nor moves: it answers `Closed`.
+// A `Result` would be no plainer: two of the answers would be its success, and `Closed` an error that is no refusal.
 #[derive(Clone, Copy, PartialEq, Eq, Debug)]
 pub enum Answer {
     Taken,
@@ -24,13 +27,16 @@ pub enum Answer {
     Closed,
 }
 
-// A card in any of the four states.
-#[derive(Drop)]
-enum AnyCard {
-    InGroup(GroupCard),
-    InTransform(TransformCard),
-    InCoset(CosetCard),
-    Finished(FinishedCard),
+// The answer that tells what became of a row.
+impl From<Result<(), Refusal>> for Answer {
+    ghost from_gives = { λ told answer. answer ≡ answered told };
+
+    fn from(told: Result<(), Refusal>) -> Answer {
+        match told {
+            Ok(()) => Answer::Taken,
+            Err(refusal) => Answer::Refused { refusal },
+        }
+    }
 }
 
 // Starts a card, hands it the requests in their order, and writes an answer to each. Answers how many were written;
@@ -44,10 +50,7 @@ pub fn run_requests(
     ensures count { MatchResult result (λ n. (n ≡ length requests.now) × (n ≤ length answers.old)) (λ e. (e ≡ OutputShort) × (length answers.old < length requests.now)) }
     ensures beyond { drop (length requests.now) answers.new ≡ drop (length requests.now) answers.old }
 {
-    if answers.len() < requests.len() {
-        return Err(Refusal::OutputShort);
-    }
-    answer_all(len, requests, answers);
+    build_card(len, requests, answers)?;
     Ok(requests.len())
 }
 
@@ -58,27 +61,15 @@ pub fn build_card(
     answers: &mut [Answer],
 ) -> Result<FinishedCard, Refusal>
     ensures law { MatchResult result (λ _. OwnList len requests.now answers.new) (λ _. answers.new ≡ answers.old) }
-    ensures card { IfOk result (λ k. card_of k.table ≡ card_after len requests.now answers.new) }
+    ensures card { IfOk result (λ k. k ≡ card_after len requests.now answers.new) }
     ensures room { MatchResult result (λ _. length requests.now ≤ length answers.old) (λ e. (e ≡ OutputShort) × (length answers.old < length requests.now)) }
     ensures beyond { drop (length requests.now) answers.new ≡ drop (length requests.now) answers.old }
 {
-    if requests.len() > answers.len() {
+    if answers.len() < requests.len() {
         return Err(Refusal::OutputShort);
     }
     let card = answer_all(len, requests, answers);
-    Ok(finished(card))
-}
-
-// The card, moved on until it is finished.
-fn finished(card: AnyCard) -> FinishedCard
-    ensures { card_of result.table ≡ card_in card }
-{
-    match card {
-        AnyCard::InGroup(group) => group.close_group().close_transform().finish(),
-        AnyCard::InTransform(transform) => transform.close_transform().finish(),
-        AnyCard::InCoset(coset) => coset.finish(),
-        AnyCard::Finished(finished) => finished,
-    }
+    Ok(card.finish())
 }
 
 // Hands the requests to a card just started, one after the other.
@@ -88,7 +79,8 @@ fn answer_all(len: WordLength, requests: &[Request], answers: &mut [Answer]) -> 
     ensures card { card_in result ≡ card_after len requests.now answers.new }
     ensures beyond { drop (length requests.now) answers.new ≡ drop (length requests.now) answers.old }
 {
-    let mut card = AnyCard::InGroup(GroupCard::new(len));
+    let mut card = AnyCard::Open(OpenCard::new(len));
+    // After `answers.iter_mut().zip(requests)` a proof knows no answer.
     for (i, request) in requests.iter().enumerate() {
         let (next, answer) = answer_one(card, *request);
         card = next;
@@ -101,60 +93,25 @@ fn answer_all(len: WordLength, requests: &[Request], answers: &mut [Answer]) -> 
 fn answer_one(card: AnyCard, request: Request) -> (AnyCard, Answer)
     ensures due { DueIn (view_of card) request result.1 }
     ensures view { view_of result.0 ≡ afterwards (view_of card) request result.1 }
-    ensures card { card_in result.0 ≡ put_into (view_of card).open_section (card_in card) (row_taken request result.1) }
+    ensures card { card_in result.0 ≡ put_into (open_in card) (card_in card) (row_taken request result.1) }
+{
+    match card {
+        AnyCard::Open(open) => answer_open(open, request),
+        AnyCard::Finished(finished) => (AnyCard::Finished(finished), Answer::Closed),
+    }
+}
+
+// The same of a card with an open section.
+fn answer_open(mut card: OpenCard, request: Request) -> (AnyCard, Answer)
+    ensures due { DueIn (view_of (Open card)) request result.1 }
+    ensures view { view_of result.0 ≡ afterwards (view_of (Open card)) request result.1 }
+    ensures card { card_in result.0 ≡ put_into (Some (open_of card)) (shown card) (row_taken request result.1) }
 {
     match request {
-        Request::AddRow { row } => add_row(card, row),
-        Request::MoveOn => move_on(card),
-    }
-}
-
-// The card after a row was handed to it, and the answer.
-fn add_row(card: AnyCard, row: u64) -> (AnyCard, Answer)
-    ensures due { DueIn (view_of card) (Request.AddRow row) result.1 }
-    ensures view { view_of result.0 ≡ afterwards (view_of card) (Request.AddRow row) result.1 }
-    ensures card { card_in result.0 ≡ put_into (view_of card).open_section (card_in card) (row_taken (Request.AddRow row) result.1) }
-{
-    match card {
-        AnyCard::InGroup(mut group) => {
-            let answer = answer_of(group.add_row(row));
-            (AnyCard::InGroup(group), answer)
+        Request::MoveOn => (card.move_on(), Answer::Moved),
+        Request::AddRow { row } => {
+            let answer = Answer::from(card.add_row(row));
+            (AnyCard::Open(card), answer)
         }
-        AnyCard::InTransform(mut transform) => {
-            let answer = answer_of(transform.add_row(row));
-            (AnyCard::InTransform(transform), answer)
-        }
-        AnyCard::InCoset(mut coset) => {
-            let answer = answer_of(coset.add_row(row));
-            (AnyCard::InCoset(coset), answer)
-        }
-        AnyCard::Finished(finished) => (AnyCard::Finished(finished), Answer::Closed),
-    }
-}
-
-// The card in its next state, and the answer.
-fn move_on(card: AnyCard) -> (AnyCard, Answer)
-    ensures due { DueIn (view_of card) Request.MoveOn result.1 }
-    ensures view { view_of result.0 ≡ afterwards (view_of card) Request.MoveOn result.1 }
-    ensures card { card_in result.0 ≡ put_into (view_of card).open_section (card_in card) (row_taken Request.MoveOn result.1) }
-{
-    match card {
-        AnyCard::InGroup(group) => (AnyCard::InTransform(group.close_group()), Answer::Moved),
-        AnyCard::InTransform(transform) => (
-            AnyCard::InCoset(transform.close_transform()),
-            Answer::Moved,
-        ),
-        AnyCard::InCoset(coset) => (AnyCard::Finished(coset.finish()), Answer::Moved),
-        AnyCard::Finished(finished) => (AnyCard::Finished(finished), Answer::Closed),
-    }
-}
-
-// The answer that tells the result of adding a row.
-fn answer_of(res: Result<(), Refusal>) -> Answer
-    ensures { result ≡ answered res }
-{
-    match res {
-        Ok(()) => Answer::Taken,
-        Err(refusal) => Answer::Refused { refusal },
     }
 }

@@ -1,6 +1,6 @@
 ghost use Rattle.std.specs.Prelude.{◌≡◌, ◌≤◌, ◌∷◌, [], ◌++◌, length, IfOk, OnErr, OnOk};
 ghost use Rattle.code.specs.declared.refusal.Section.TheVariants.{Group, Transform, Coset};
-ghost use Rattle.card.specs.Cards.{added, blank, card_rows, encoded, Lawful, Only, rows_of, section_of, max_section_rows, Told, verdict};
+ghost use Rattle.card.specs.Cards.{added, blank, card_rows, encoded, Lawful, NoneAfter, Only, rows_of, section_of, max_section_rows, Told, verdict};
 
 use super::{CosetCard, FinishedCard, GroupCard, TransformCard};
 use crate::table::Table;
@@ -31,7 +31,8 @@ impl GroupCard {
 
     // The same card, taking transform rows.
     pub fn close_group(self) -> TransformCard
-        ensures { result ≡ self }
+        ensures card { result ≡ self }
+        ensures none_after { NoneAfter self Group }
     {
         TransformCard { table: self.table }
     }
@@ -52,7 +53,8 @@ impl TransformCard {
 
     // The same card, taking coset rows.
     pub fn close_transform(self) -> CosetCard
-        ensures { result ≡ self }
+        ensures card { result ≡ self }
+        ensures none_after { NoneAfter self Transform }
     {
         CosetCard { table: self.table }
     }
