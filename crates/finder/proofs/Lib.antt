@@ -1,4 +1,3 @@
 pub mod Refusals
 pub mod Folds
 pub mod Picks
-pub mod CardRows

@@ -13,7 +13,3 @@ loop-x-preserved g c =
       below_more _ _ (λ k h. other_at w c.loop-x.list i k v (pos 0) (omega arith) ∙ c.loop-x.invariant.0 k h) (same_at w c.loop-x.list i v (pos 0) lt ∙ c.make-zero.ensures.weighs ∙ ap pos (omega arith)),
       blank_more z c.loop-x.list i v lt c.loop-x.invariant.1 (let s = c.make-zero.ensures.small in omega arith),
     )
-
-pub returns : goal.returns
-returns g c =
-    record { weights = λ x l. c.loop-x.invariant.0 x (omega arith); sizes = sym (ap (sum_by g.R.Reading.size) (take_all c.loop-x.x-index c.loop-x.list (omega arith))) ∙ c.loop-x.invariant.1 }

@@ -1,11 +1,29 @@
 use Rattle.std.proofs.Common.{◌≡◌, ℕ, ◌+◌, ◌*◌, ◌<◌, ◌≤◌, List, [], ◌∷◌, ◌++◌, length, get_or, set, pos, ◌+ℤ◌, sum_by, sym, ap, ◌∙◌, subst, ap₂, arith, rules}
 use Rattle.std.proofs.lemmas.List.{length-set, length-append}
 use Rattle.std.proofs.lemmas.Slice.Zip.{zip_turn}
+use Rattle.std.proofs.lemmas.List.Sums.{get_or-le-sum_by}
 use Rattle.std.proofs.ByRecursion.{All-get_or}
 use Rattle.code.specs.Limits.{size_limit}
 use Rattle.hadamard.proofs.Entries.{read_at}
 use Rattle.finder.proofs.Folds.{Scattered, fold_skips, fold_step, total_step}
 use Rattle.finder.proofs.fold.scatter.Goals as goal
+
+pub add-requires : goal.add-requires
+add-requires g c =
+    let size = g.R.Reading.size in
+    let word = c.args.word.now in
+    let cur = c.loop-x.list in
+    let i = length c.loop-x.yielded in
+    let turn = zip_turn word c.args.slots.now c.loop-x.yielded c.into_iter-x-iterator.result c.loop-x.x-iterator c.next.new.self c.next.result (search rules) (search rules) c.loop-x.yielded_by _ c.in-Some.is c.next.ensures.steps in
+    let x = c.in-Some.x.now in
+    let low : i < length word = turn.0 in
+    let small = All-get_or (λ x. size x ≤ size_limit) word i x low c.requires.small in
+    let f = ap size (turn.2 x) in
+    let old = get_or-le-sum_by size cur c.in-Some.slot.now c.index-list-at.result c.if-at-list.true in
+    let e = ap size c.index-list-at.is in
+    let t = c.loop-x.invariant.1 in
+    let n = c.requires.fits.1 in
+    omega arith
 
 pub loop-x-preserved-then-at-list : goal.loop-x-preserved-then-at-list
 loop-x-preserved-then-at-list g c =

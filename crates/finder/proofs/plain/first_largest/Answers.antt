@@ -8,13 +8,6 @@ use Rattle.hadamard.proofs.Entries.{read_at}
 use Rattle.finder.proofs.Picks.{picked, less, not_less, largest_takes, largest_keeps, largest_first}
 use Rattle.finder.proofs.plain.first_largest.Goals as goal
 
-pub loop-i-init : goal.loop-i-init
-loop-i-init g c =
-    record {
-      top = largest_first (weight_at g.R.Reading.weight c.args.list.now);
-      weighs = sym (read_at g.R.Reading.weight c.args.list.now 0 c.index-list-0.result (pos 0) c.requires.0 c.index-list-0.is);
-    }
-
 pub loop-i-preserved : goal.loop-i-preserved
 loop-i-preserved g c =
     let w = g.R.Reading.weight in

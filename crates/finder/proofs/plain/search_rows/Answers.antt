@@ -49,9 +49,6 @@ first_largest-requires g c =
     let r = c.message_count-need.ensures in
     (omega arith, omega arith)
 
-pub returns-in_err-fold : goal.returns-in_err-fold
-returns-in_err-fold g c = rw (← c.message_count-need.ensures) (search rules)
-
 pub returns : goal.returns
 returns g c =
     let w = g.R.Reading.weight in
