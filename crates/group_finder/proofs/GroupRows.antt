@@ -39,6 +39,7 @@ module _ {R : Type 0} (weight : R → ℤ) (size : R → ℕ) (S : ℕ → ℤ) 
       let os = inv.odd_small in
       record { even = x.0; odd = y.0; even_weighs = x.1; odd_weighs = y.1; even_small = omega arith; odd_small = omega arith }
 
+module _ {R : Type 0} (weight : R → ℤ) (size : R → ℕ) (S : ℕ → ℤ) (bulk : ℕ → ℕ) (j : ℕ) (s : R) (ws : weight s ≡ S j) (zs : size s ≡ bulk j) where
   pub parity_room : (count m : ℕ) (a : R) (n : ℕ) (b : R) → ByParity weight size S bulk j m a n b → j < count → totalled count bulk ≤ sum_limit → max (size a) (size b) + size s ≤ sum_limit
   parity_room count m a n b inv h room =
       let t : totalled (j + 1) bulk ≡ totalled j bulk + bulk j = ap (λ (i : ℕ). totalled i bulk) (add-one j) in
@@ -57,21 +58,18 @@ bit_is j h = one_shl j 32 (omega arith)
 pub bit_small : (j : ℕ) → j ≤ 8 → 2 ^ j ≤ 256
 bit_small j h = pow_mono h
 
-pub index_below : (q n span t : ℕ) → q < n → t < span → q * span + t < n * span
-index_below q n span t a b = digits_lt a b
-
 -- the group rows are done
 module _ {R : Type 0} (weight : R → ℤ) (size : R → ℕ) (w : ℕ → ℤ) (bulk : ℕ → ℕ) (J : ℕ) (m : ℕ) (a : R) (n : ℕ) (b : R) (inv : ByParity weight size (λ i. w (i + 1)) bulk J m a n b) where
-  pub settled : (up down best r : R) (k : ℕ) → weight up ≡ weight a +ℤ w (J + 1) → weight down ≡ weight b +ℤ neg_ℤ (w (J + 1)) → Chosen weight m up n down k best → weight r ≡ w 0 +ℤ weight best
+  pub settled : (up down r : R) (k : ℕ) (x : ℤ) → weight up ≡ weight a +ℤ w (J + 1) → weight down ≡ weight b +ℤ neg_ℤ (w (J + 1)) → Chosen weight m up n down k x → weight r ≡ w 0 +ℤ x
       → Top (choice_value w J) (2 ^ J) k × (weight r ≡ choice_value w J k)
-  settled up down best r k wu wd c wr =
+  settled up down r k y wu wd c wr =
       let eu : weight up ≡ signs (λ i. w (i + 1)) J m +ℤ w (J + 1) = wu ∙ ap (λ z. z +ℤ w (J + 1)) inv.even_weighs in
       let ed : weight down ≡ signs (λ i. w (i + 1)) J n +ℤ neg_ℤ (w (J + 1)) = wd ∙ ap (λ z. z +ℤ neg_ℤ (w (J + 1))) inv.odd_weighs in
       ⊎_elim
       (λ h.
       let x = best_even w J m n inv.even inv.odd (weight up) (weight down) eu ed h.2 in
-      (subst (λ (z : ℕ). Top (choice_value w J) (2 ^ J) z) (sym h.0) x.0, wr ∙ ap (λ z. w 0 +ℤ weight z) h.1 ∙ sym x.1 ∙ ap (choice_value w J) (sym h.0)))
+      (subst (λ (z : ℕ). Top (choice_value w J) (2 ^ J) z) (sym h.0) x.0, wr ∙ ap (λ z. w 0 +ℤ z) h.1 ∙ sym x.1 ∙ ap (choice_value w J) (sym h.0)))
       (λ h.
       let x = best_odd w J m n inv.even inv.odd (weight up) (weight down) eu ed h.2 in
-      (subst (λ (z : ℕ). Top (choice_value w J) (2 ^ J) z) (sym h.0) x.0, wr ∙ ap (λ z. w 0 +ℤ weight z) h.1 ∙ sym x.1 ∙ ap (choice_value w J) (sym h.0)))
+      (subst (λ (z : ℕ). Top (choice_value w J) (2 ^ J) z) (sym h.0) x.0, wr ∙ ap (λ z. w 0 +ℤ z) h.1 ∙ sym x.1 ∙ ap (choice_value w J) (sym h.0)))
       c

@@ -14,14 +14,7 @@ use Rattle.finder.specs.Fold.{column, sum_of_slot}
 use Rattle.group_finder.specs.Choices.{totalled, choice_value, group_value, Slotted, slot_sum, PartsDone, parity}
 use Rattle.finder.specs.Gather.{column_below}
 use Rattle.group_finder.proofs.SlotSums.{decompose, part_spectrum}
-
-totalled_mono : (n : ℕ) (f g : ℕ → ℕ) → ((i : ℕ) → i < n → f i ≤ g i) → totalled n f ≤ totalled n g
-totalled_mono zero f g h = omega arith
-totalled_mono (suc n) f g h = omega (arith, totalled_mono n f g (λ i l. h i (omega arith)), h n (omega arith))
-
-totalled-front : (n : ℕ) (g : ℕ → ℕ) → totalled (suc n) g ≡ g 0 + totalled n (λ i. g (i + 1))
-totalled-front zero g = omega arith
-totalled-front (suc n) g = let e = totalled-front n g in let f : g (n + 1) ≡ g (suc n) = ap g (add-one n) in omega arith
+use Rattle.group_finder.proofs.Sizes.{totalled_mono}
 
 parts_total : {R : Type 0} (size : R → ℕ) (span : ℕ) (xs : List R) (n : ℕ) → totalled n (λ q. sum_by size (take span (drop (q * span) xs))) + sum_by size (drop (n * span) xs) ≡ sum_by size xs
 parts_total size span xs zero = let z : 0 * span ≡ 0 = omega arith in ap (λ (j : ℕ). 0 + sum_by size (drop j xs)) z ∙ omega arith
@@ -31,20 +24,9 @@ parts_total size span xs (suc n) =
     omega (arith, parts_total size span xs n, sum_by-take-drop size (drop (n * span) xs) span)
 
 -- the sizes that one choice of the others meets
-pub sizes_fit : {R : Type 0} (weight : R → ℤ) (size : R → ℕ) (span J t : ℕ) (old new : List R) → PartsDone weight size span (J + 2) old new → t < span → sum_by size old ≤ sum_limit
-    → size_at size new t + totalled J (λ i. size_at size new ((i + 1) * span + t)) + size_at size new ((J + 1) * span + t) ≤ sum_limit
-sizes_fit weight size span J t old new done low small =
-    let P : ℕ → ℕ = λ q. sum_by size (take span (drop (q * span) old)) in
-    let z : 0 * span + t ≡ t = omega arith in
-    let a = done.small 0 (omega arith) t low in
-    let a' = ap (size_at size new) z in
-    let b = done.small (J + 1) (omega arith) t low in
-    let m = totalled_mono J (λ i. size_at size new ((i + 1) * span + t)) (λ i. P (i + 1)) (λ i l. done.small (i + 1) (omega arith) t low) in
-    let s : J + 2 ≡ suc (suc J) = omega arith in
-    let f = totalled-front J P in
-    let l : P (J + 1) ≡ P (suc J) = ap P (add-one J) in
-    let p = parts_total size span old (suc (suc J)) in
-    omega arith
+pub sizes_fit : {R : Type 0} (weight : R → ℤ) (size : R → ℕ) (span n t : ℕ) (old new : List R) → PartsDone weight size span n old new → t < span → sum_by size old ≤ sum_limit → totalled n (λ q. size_at size new (q * span + t)) ≤ sum_limit
+sizes_fit weight size span n t old new done low small =
+    omega (arith, totalled_mono n (λ q. size_at size new (q * span + t)) (λ q. sum_by size (take span (drop (q * span) old))) (λ q l. done.small q l t low), parts_total size span old n)
 
 choice_ext : (f g : ℕ → ℤ) (J s : ℕ) → ((q : ℕ) → q < J + 2 → f q ≡ g q) → choice_value f J s ≡ choice_value g J s
 choice_ext f g J s h =

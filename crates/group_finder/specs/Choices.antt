@@ -45,11 +45,11 @@ pub record Extended {R : Type 0} (weight : R → ℤ) (size : R → ℕ) (m : �
   pub takes : (weight a +ℤ weight s) <ℤ (weight b +ℤ neg_ℤ (weight s)) → (k ≡ n + bit) × (weight r ≡ weight b +ℤ neg_ℤ (weight s))
   pub small : size r ≤ max (size a) (size b) + size s
 
--- the better of two, the one with the smaller message on a tie
-abbrev pub Chosen : {R : Type 0} → (R → ℤ) → ℕ → R → ℕ → R → ℕ → R → Type 0
-Chosen weight m a n b k r =
-    ((k ≡ m) × (r ≡ a) × ((weight b <ℤ weight a) ⊎ ((weight b ≤ℤ weight a) × (m < n))))
-    ⊎ ((k ≡ n) × (r ≡ b) × ((weight a <ℤ weight b) ⊎ ((weight a ≤ℤ weight b) × (n ≤ m))))
+-- message k and weight x are those of the better of two, the one with the smaller message on a tie
+abbrev pub Chosen : {R : Type 0} → (R → ℤ) → ℕ → R → ℕ → R → ℕ → ℤ → Type 0
+Chosen weight m a n b k x =
+    ((k ≡ m) × (x ≡ weight a) × ((weight b <ℤ weight a) ⊎ ((weight b ≤ℤ weight a) × (m < n))))
+    ⊎ ((k ≡ n) × (x ≡ weight b) × ((weight a <ℤ weight b) ⊎ ((weight a ≤ℤ weight b) × (n ≤ m))))
 
 -- the best choices of j rows of even and of odd number
 pub record ByParity {R : Type 0} (weight : R → ℤ) (size : R → ℕ) (S : ℕ → ℤ) (bulk : ℕ → ℕ) (j : ℕ) (m : ℕ) (a : R) (n : ℕ) (b : R) : Type 0 where
@@ -60,15 +60,18 @@ pub record ByParity {R : Type 0} (weight : R → ℤ) (size : R → ℕ) (S : �
   pub even_small : size a ≤ totalled j bulk
   pub odd_small : size b ≤ totalled j bulk
 
--- readings that weigh what the best choices of j rows of even and of odd number get
-pub record WeightsByParity {R : Type 0} (weight : R → ℤ) (size : R → ℕ) (S : ℕ → ℤ) (bulk : ℕ → ℕ) (j : ℕ) (a b : R) : Type 0 where
+-- the best choices of j rows of even and of odd number, with what is kept of their messages
+pub record KeptByParity {M R : Type 0} (keeps : M → ℕ → Type 0) (weight : R → ℤ) (size : R → ℕ) (S : ℕ → ℤ) (bulk : ℕ → ℕ) (j : ℕ) (m : M) (a : R) (n : M) (b : R) : Type 0 where
   pub even_choice : ℕ
   pub odd_choice : ℕ
+  pub even_kept : keeps m even_choice
+  pub odd_kept : keeps n odd_choice
   pub best : ByParity weight size S bulk j even_choice a odd_choice b
 
--- x is the greatest value of f below the limit
-pub record WeighsBest (f : ℕ → ℤ) (limit : ℕ) (x : ℤ) : Type 0 where
+-- x is the greatest value of f below the limit, and m what is kept of where it is first met
+pub record BestKept {M : Type 0} (keeps : M → ℕ → Type 0) (f : ℕ → ℤ) (limit : ℕ) (m : M) (x : ℤ) : Type 0 where
   pub choice : ℕ
+  pub kept : keeps m choice
   pub top : Top f limit choice
   pub weighs : x ≡ f choice
 

@@ -12,7 +12,7 @@ ghost use Rattle.group_finder.specs.Choices.{group_need};
 ghost use Rattle.std.proofs.Common.{arith};
 ghost use Rattle.group_finder.specs.Concurring.{group_lawful};
 
-use crate::choices::over_choices;
+use crate::choices::Lists;
 use crate::slots::{group_slots, transform_parts};
 use card::states::FinishedCard;
 use code::length::WordLength;
@@ -66,14 +66,15 @@ fn search_group<R: Reading>(
 {
     let span = choice_count(others.len());
     let slots = group_slots(group, others, places, span);
-    match fold(word, places, &slots, need, work) {
-        Ok(()) => {
-            let lists = &mut work[0..need];
-            transform_parts(lists, span, others.len(), group.len() + 2);
-            Ok(over_choices(lists, span, group.len()))
-        }
-        Err(refusal) => Err(refusal),
-    }
+    fold(word, places, &slots, need, work)?;
+    let readings = &mut work[0..need];
+    transform_parts(readings, span, others.len(), group.len() + 2);
+    let lists = Lists {
+        readings,
+        span,
+        count: group.len(),
+    };
+    Ok(lists.best())
 }
 
 // The group finder of the plain finder's rows, the first `group` of which are the card's group.
