@@ -68,7 +68,7 @@ fn search_group<R: Reading>(
     let slots = group_slots(group, others, places, span);
     fold(word, places, &slots, need, work)?;
     let readings = &mut work[0..need];
-    transform_parts(readings, span, others.len(), group.len() + 2);
+    transform_parts(readings, span, group.len() + 2);
     let lists = Lists {
         readings,
         span,

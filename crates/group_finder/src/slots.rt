@@ -1,4 +1,4 @@
-ghost use Rattle.std.specs.Prelude.{◌≡◌, ℕ, ◌+◌, ◌*◌, ◌/◌, ◌^◌, ◌<◌, ◌≤◌, length, sum_by, MatchOption, ◌≢◌, slice_index};
+ghost use Rattle.std.specs.Prelude.{◌≡◌, ℕ, ◌+◌, ◌*◌, ◌/◌, ◌^◌, ◌<◌, ◌≤◌, length, sum_by, slice_index};
 ghost use Rattle.card.specs.Cards.{max_section_rows};
 ghost use Rattle.code.specs.Limits.{sum_limit};
 ghost use Rattle.finder.specs.Fold.{column};
@@ -9,19 +9,6 @@ use finder::fold::columns;
 use hadamard::transform;
 use reading::Reading;
 
-// The slot j + 1 of a column in which row j alone has digit 1, if it is one; another column, if it is not 0, has all of at least two digits.
-fn single_slot(c: usize, count: usize) -> Option<usize>
-    requires { (count ≤ max_section_rows) × (Concurs count c) }
-    ensures { MatchOption result ((c ≢ 0) → Slotted count c (count + 1)) (λ q. Slotted count c q) }
-{
-    for j in 0..count {
-        if c == 1usize << j {
-            return Some(j + 1);
-        }
-    }
-    None
-}
-
 // The slot of a place by its column of the group rows: 0 where no row has digit 1 there, j + 1 where row j alone has it, count + 1 where all of at least two have it.
 fn slot_of(c: usize, count: usize) -> usize
     requires { (count ≤ max_section_rows) × (Concurs count c) }
@@ -30,9 +17,10 @@ fn slot_of(c: usize, count: usize) -> usize
     if c == 0 {
         return 0;
     }
-    match single_slot(c, count) {
-        Some(slot) => slot,
-        None => count + 1,
+    if c.is_power_of_two() {
+        c.trailing_zeros() as usize + 1
+    } else {
+        count + 1
     }
 }
 
@@ -58,8 +46,10 @@ pub(crate) fn group_slots(
 }
 
 // Transforms each of so many lists that lie one after the other.
-pub(crate) fn transform_parts<R: Reading>(lists: &mut [R], span: usize, power: usize, count: usize)
-    requires power { (power ≤ max_section_rows) × (span ≡ 2 ^ power) × (count ≤ max_section_rows + 2) }
+// A loop by number: a proof knows no element of a slice after `chunks_exact_mut`.
+pub(crate) fn transform_parts<R: Reading>(lists: &mut [R], span: usize, count: usize)
+    requires power { (t : ℕ) × ((t ≤ max_section_rows) × (span ≡ 2 ^ t)) }
+    requires few { count ≤ max_section_rows + 2 }
     requires long { length lists.old ≡ count * span }
     requires small { sum_by R.Reading.size lists.old ≤ sum_limit }
     ensures { PartsDone R.Reading.weight R.Reading.size span count lists.old lists.new }

@@ -41,7 +41,7 @@ loop-q-preserved g c =
     let small : sum_by z (take (q * span + span - q * span) (drop (q * span) cur)) ≤ sum_limit = (let e = ap (sum_by z) mid in let s = part_small w z span q count old cur ys long low rest c.requires.small in omega arith) in
     let tr : Transformed w z (take (q * span + span - q * span) (drop (q * span) cur)) ys =
     transform_taken c.transform.result (Transformed w z (take (q * span + span - q * span) (drop (q * span) cur)) ys) (λ _. ys ≡ take (q * span + span - q * span) (drop (q * span) cur))
-    (length (take (q * span + span - q * span) (drop (q * span) cur))) (sum_by z (take (q * span + span - q * span) (drop (q * span) cur))) c.args.power (let q = c.requires.power.0 in omega arith) (lmid ∙ c.requires.power.1) small c.transform.ensures.value c.transform.ensures.list in
+    (length (take (q * span + span - q * span) (drop (q * span) cur))) (sum_by z (take (q * span + span - q * span) (drop (q * span) cur))) c.requires.power.0 (let q = c.requires.power.1.0 in omega arith) (lmid ∙ c.requires.power.1.1) small c.transform.ensures.value c.transform.ensures.list in
     let tr' = subst (λ (l : List g.row.R.Denot). Transformed w z l ys) mid tr in
     let lys : length ys ≡ span = c.transform.auto.list ∙ lmid in (
       subst (λ (j : ℕ). PartsDone w z span (q + 1) old (put_mid (q * span) j cur ys)) (sym k) (parts_step w z span q count old cur ys long low rest lys c.loop-q.invariant.0 tr'),
