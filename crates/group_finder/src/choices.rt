@@ -206,6 +206,8 @@ impl<'a, R: Reading> Lists<'a, R> {
     }
 
     // The best message, and a reading that weighs what it gets.
+    // Not inlined: a span that the compiler does not know as a power of two is added from list to list, not shifted anew.
+    #[inline(never)]
     pub(crate) fn best(&self) -> Found<R>
         ensures top { Top (group_value (weight_at R.Reading.weight self.now.readings.now) self.now.span self.now.count) (self.now.span * 2 ^ self.now.count) result.message }
         ensures weighs { R.Reading.weight result.reading ≡ group_value (weight_at R.Reading.weight self.now.readings.now) self.now.span self.now.count result.message }
