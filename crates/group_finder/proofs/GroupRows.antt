@@ -1,11 +1,10 @@
 -- One group row more, and what comes after the last.
-use Rattle.std.proofs.Common.{◌≡◌, ℕ, ◌+◌, ◌*◌, ◌%◌, ◌^◌, ◌<◌, ◌≤◌, max, Bool, true, false, not, ℤ, ◌+ℤ◌, neg_ℤ, sym, ap, ◌∙◌, subst, ap₂, ⊎_elim, add-one, arith, pow_mono}
-use lib.Arith.{digits_lt}
+use Rattle.std.proofs.Common.{◌≡◌, ℕ, ◌+◌, ◌*◌, ◌%◌, ◌^◌, ◌<◌, ◌≤◌, max, min, Bool, true, false, not, ◌⊎◌, ℤ, ◌+ℤ◌, ◌≤ℤ◌, ◌<ℤ◌, neg_ℤ, inl, inr, sym, ap, ◌∙◌, subst, ap₂, ⊎_elim, add-one, arith, pow_mono}
 use Rattle.code.specs.Limits.{sum_limit}
 use Rattle.std.proofs.lemmas.Int.{ints, by_lt_z}
+use Rattle.std.proofs.lemmas.Bool.{cases_lt}
 use Rattle.std.proofs.lemmas.Nat.{one_shl}
-use Rattle.code.specs.Words.{Top}
-use Rattle.group_finder.specs.Choices.{TopOf, signs, of_parity, totalled, choice_value, Extended, Chosen, ByParity}
+use Rattle.group_finder.specs.Choices.{BestKept, ByParity, Extended, KeptByParity, TopOf, choice_value, of_parity, signs, totalled}
 use Rattle.group_finder.proofs.Parities.{row_keeps, row_takes, first_even, first_odd, value_even, value_odd, best_even, best_odd}
 use Rattle.group_finder.proofs.Sizes.{totalled_le}
 
@@ -58,18 +57,36 @@ bit_is j h = one_shl j 32 (omega arith)
 pub bit_small : (j : ℕ) → j ≤ 8 → 2 ^ j ≤ 256
 bit_small j h = pow_mono h
 
--- the group rows are done
-module _ {R : Type 0} (weight : R → ℤ) (size : R → ℕ) (w : ℕ → ℤ) (bulk : ℕ → ℕ) (J : ℕ) (m : ℕ) (a : R) (n : ℕ) (b : R) (inv : ByParity weight size (λ i. w (i + 1)) bulk J m a n b) where
-  pub settled : (up down r : R) (k : ℕ) (x : ℤ) → weight up ≡ weight a +ℤ w (J + 1) → weight down ≡ weight b +ℤ neg_ℤ (w (J + 1)) → Chosen weight m up n down k x → weight r ≡ w 0 +ℤ x
-      → Top (choice_value w J) (2 ^ J) k × (weight r ≡ choice_value w J k)
-  settled up down r k y wu wd c wr =
-      let eu : weight up ≡ signs (λ i. w (i + 1)) J m +ℤ w (J + 1) = wu ∙ ap (λ z. z +ℤ w (J + 1)) inv.even_weighs in
-      let ed : weight down ≡ signs (λ i. w (i + 1)) J n +ℤ neg_ℤ (w (J + 1)) = wd ∙ ap (λ z. z +ℤ neg_ℤ (w (J + 1))) inv.odd_weighs in
+-- the group rows are done: the heavier of two is the best choice, and on a tie the one with the smaller message
+module _ {M R : Type 0} (keeps : M → ℕ → Type 0) (weight : R → ℤ) (size : R → ℕ) (w : ℕ → ℤ) (bulk : ℕ → ℕ) (J : ℕ) (first : M) (a : R) (second : M) (b : R)
+    (inv : KeptByParity keeps weight size (λ i. w (i + 1)) bulk J first a second b) (up down : ℤ) (wu : up ≡ weight a +ℤ w (J + 1)) (wd : down ≡ weight b +ℤ neg_ℤ (w (J + 1))) where
+  up_is : up ≡ signs (λ i. w (i + 1)) J inv.even_choice +ℤ w (J + 1)
+  up_is = wu ∙ ap (λ z. z +ℤ w (J + 1)) inv.best.even_weighs
+
+  down_is : down ≡ signs (λ i. w (i + 1)) J inv.odd_choice +ℤ neg_ℤ (w (J + 1))
+  down_is = wd ∙ ap (λ z. z +ℤ neg_ℤ (w (J + 1))) inv.best.odd_weighs
+
+  even_is : (k : M) (x : ℤ) → keeps k inv.even_choice → x ≡ up → (down <ℤ up) ⊎ ((down ≤ℤ up) × (inv.even_choice < inv.odd_choice)) → BestKept keeps (choice_value w J) (2 ^ J) k (w 0 +ℤ x)
+  even_is k x h e p =
+      let y = best_even w J inv.even_choice inv.odd_choice inv.best.even inv.best.odd up down up_is down_is p in
+      record { choice = inv.even_choice; kept = h; top = y.0; weighs = ap (λ z. w 0 +ℤ z) e ∙ sym y.1 }
+
+  odd_is : (k : M) (x : ℤ) → keeps k inv.odd_choice → x ≡ down → (up <ℤ down) ⊎ ((up ≤ℤ down) × (inv.odd_choice ≤ inv.even_choice)) → BestKept keeps (choice_value w J) (2 ^ J) k (w 0 +ℤ x)
+  odd_is k x h e p =
+      let y = best_odd w J inv.even_choice inv.odd_choice inv.best.even inv.best.odd up down up_is down_is p in
+      record { choice = inv.odd_choice; kept = h; top = y.0; weighs = ap (λ z. w 0 +ℤ z) e ∙ sym y.1 }
+
+  pub settled : (k : M) (x : ℤ) → (up <ℤ down → (second ≡ k) × (x ≡ down)) → (down <ℤ up → (first ≡ k) × (x ≡ up)) → (up ≡ down → x ≡ up)
+      → (up ≡ down → (m n : ℕ) → keeps first m → keeps second n → keeps k (min m n)) → BestKept keeps (choice_value w J) (2 ^ J) k (w 0 +ℤ x)
+  settled k x heavier lighter tie smaller =
+      by_lt_z up down
+      (λ h. let y = heavier h in odd_is k x (subst (λ (z : M). keeps z inv.odd_choice) y.0 inv.odd_kept) y.1 (inl h))
+      (λ h. by_lt_z down up
+      (λ l. let y = lighter l in even_is k x (subst (λ (z : M). keeps z inv.even_choice) y.0 inv.even_kept) y.1 (inl l))
+      (λ l.
+      let same : up ≡ down = omega (arith, ints) in
+      let y = smaller same inv.even_choice inv.odd_choice inv.even_kept inv.odd_kept in
       ⊎_elim
-      (λ h.
-      let x = best_even w J m n inv.even inv.odd (weight up) (weight down) eu ed h.2 in
-      (subst (λ (z : ℕ). Top (choice_value w J) (2 ^ J) z) (sym h.0) x.0, wr ∙ ap (λ z. w 0 +ℤ z) h.1 ∙ sym x.1 ∙ ap (choice_value w J) (sym h.0)))
-      (λ h.
-      let x = best_odd w J m n inv.even inv.odd (weight up) (weight down) eu ed h.2 in
-      (subst (λ (z : ℕ). Top (choice_value w J) (2 ^ J) z) (sym h.0) x.0, wr ∙ ap (λ z. w 0 +ℤ z) h.1 ∙ sym x.1 ∙ ap (choice_value w J) (sym h.0)))
-      c
+      (λ (c : inv.even_choice < inv.odd_choice). let z : min inv.even_choice inv.odd_choice ≡ inv.even_choice = omega arith in even_is k x (subst (keeps k) z y) (tie same) (inr (h, c)))
+      (λ (c : inv.odd_choice ≤ inv.even_choice). let z : min inv.even_choice inv.odd_choice ≡ inv.odd_choice = omega arith in odd_is k x (subst (keeps k) z y) (tie same ∙ same) (inr (l, c)))
+      (cases_lt inv.even_choice inv.odd_choice)))

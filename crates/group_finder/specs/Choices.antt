@@ -45,12 +45,6 @@ pub record Extended {R : Type 0} (weight : R → ℤ) (size : R → ℕ) (m : �
   pub takes : (weight a +ℤ weight s) <ℤ (weight b +ℤ neg_ℤ (weight s)) → (k ≡ n + bit) × (weight r ≡ weight b +ℤ neg_ℤ (weight s))
   pub small : size r ≤ max (size a) (size b) + size s
 
--- message k and weight x are those of the better of two, the one with the smaller message on a tie
-abbrev pub Chosen : {R : Type 0} → (R → ℤ) → ℕ → R → ℕ → R → ℕ → ℤ → Type 0
-Chosen weight m a n b k x =
-    ((k ≡ m) × (x ≡ weight a) × ((weight b <ℤ weight a) ⊎ ((weight b ≤ℤ weight a) × (m < n))))
-    ⊎ ((k ≡ n) × (x ≡ weight b) × ((weight a <ℤ weight b) ⊎ ((weight a ≤ℤ weight b) × (n ≤ m))))
-
 -- the best choices of j rows of even and of odd number
 pub record ByParity {R : Type 0} (weight : R → ℤ) (size : R → ℕ) (S : ℕ → ℤ) (bulk : ℕ → ℕ) (j : ℕ) (m : ℕ) (a : R) (n : ℕ) (b : R) : Type 0 where
   pub even : TopOf (of_parity false) (signs S j) (2 ^ j) m

@@ -1,9 +1,9 @@
-ghost use Rattle.std.specs.Prelude.{◌≡◌, ℕ, ◌+◌, ◌*◌, ◌^◌, ◌<◌, ◌≤◌, max, min, length, ◌+ℤ◌, neg_ℤ, true, false};
+ghost use Rattle.std.specs.Prelude.{◌≡◌, ℕ, ◌+◌, ◌*◌, ◌^◌, ◌<◌, ◌≤◌, max, min, length, ◌+ℤ◌, ◌<ℤ◌, neg_ℤ, true, false};
 ghost use Rattle.card.specs.Cards.{max_section_rows};
 ghost use Rattle.code.specs.Limits.{sum_limit};
 ghost use Rattle.code.specs.Words.{Top};
 ghost use Rattle.hadamard.specs.Transform.{size_at, weight_at};
-ghost use Rattle.group_finder.specs.Choices.{BestBefore, BestKept, Chosen, Extended, KeptByParity, choice_value, group_value, totalled};
+ghost use Rattle.group_finder.specs.Choices.{BestBefore, BestKept, Extended, KeptByParity, choice_value, group_value, totalled};
 
 use finder::found::Found;
 use reading::Reading;
@@ -98,9 +98,11 @@ fn extend<M: Message, R: Reading>(a: Choice<M, R>, b: Choice<M, R>, s: R, bit: u
 
 // The better of two, the smaller message on a tie.
 fn better<M: Message, R: Reading>(a: Choice<M, R>, b: Choice<M, R>) -> Choice<M, R>
-    ensures small { R.Reading.size result.reading ≤ max (R.Reading.size a.reading) (R.Reading.size b.reading) }
-    ensures chosen { (m n : ℕ) → M.Message.keeps a.message m → M.Message.keeps b.message n
-        → (k : ℕ) × (M.Message.keeps result.message k × Chosen R.Reading.weight m a.reading n b.reading k (R.Reading.weight result.reading)) }
+    ensures second { R.Reading.weight a.reading <ℤ R.Reading.weight b.reading → result ≡ b }
+    ensures first { R.Reading.weight b.reading <ℤ R.Reading.weight a.reading → result ≡ a }
+    ensures tie { R.Reading.weight a.reading ≡ R.Reading.weight b.reading → R.Reading.weight result.reading ≡ R.Reading.weight a.reading }
+    ensures smaller { R.Reading.weight a.reading ≡ R.Reading.weight b.reading → (m n : ℕ) → M.Message.keeps a.message m → M.Message.keeps b.message n → M.Message.keeps result.message (min m n) }
+    ensures sized { R.Reading.size result.reading ≤ max (R.Reading.size a.reading) (R.Reading.size b.reading) }
 {
     if a.reading.below(b.reading) {
         return b;

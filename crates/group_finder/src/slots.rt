@@ -1,4 +1,4 @@
-ghost use Rattle.std.specs.Prelude.{◌≡◌, ℕ, ◌+◌, ◌*◌, ◌/◌, ◌^◌, ◌<◌, ◌≤◌, length, sum_by, slice_index};
+ghost use Rattle.std.specs.Prelude.{◌≡◌, ℕ, ◌+◌, ◌*◌, ◌/◌, ◌^◌, ◌<◌, ◌≤◌, length, sum_by, MatchOption, ◌≢◌, slice_index};
 ghost use Rattle.card.specs.Cards.{max_section_rows};
 ghost use Rattle.code.specs.Limits.{sum_limit};
 ghost use Rattle.finder.specs.Fold.{column};
@@ -9,6 +9,18 @@ use finder::fold::columns;
 use hadamard::transform;
 use reading::Reading;
 
+// The slot j + 1 of a column in which row j alone has digit 1, if it is one; another column, if it is not 0, has all of at least two digits.
+fn single_slot(c: usize, count: usize) -> Option<usize>
+    requires { (count ≤ max_section_rows) × (Concurs count c) }
+    ensures { MatchOption result ((c ≢ 0) → Slotted count c (count + 1)) (λ q. Slotted count c q) }
+{
+    if c.is_power_of_two() {
+        Some(c.trailing_zeros() as usize + 1)
+    } else {
+        None
+    }
+}
+
 // The slot of a place by its column of the group rows: 0 where no row has digit 1 there, j + 1 where row j alone has it, count + 1 where all of at least two have it.
 fn slot_of(c: usize, count: usize) -> usize
     requires { (count ≤ max_section_rows) × (Concurs count c) }
@@ -17,14 +29,11 @@ fn slot_of(c: usize, count: usize) -> usize
     if c == 0 {
         return 0;
     }
-    if c.is_power_of_two() {
-        c.trailing_zeros() as usize + 1
-    } else {
-        count + 1
-    }
+    single_slot(c, count).unwrap_or(count + 1)
 }
 
 // For each place of a word the entry that its reading goes to: its slot's list, and there its column of the other rows.
+// A loop by number: beyond the word's places nothing is known of the two columns.
 pub(crate) fn group_slots(
     group: &[u64],
     others: &[u64],

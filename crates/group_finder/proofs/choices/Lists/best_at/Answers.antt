@@ -1,7 +1,7 @@
 use Rattle.std.proofs.Common.{◌≡◌, ℕ, ◌+◌, ◌*◌, ◌^◌, ℤ, ◌+ℤ◌, neg_ℤ, sym, ap, ◌∙◌, subst, ap₂, arith}
 use Rattle.hadamard.specs.Transform.{weight_at, size_at}
 use Rattle.code.specs.Words.{Top}
-use Rattle.group_finder.specs.Choices.{choice_value}
+use Rattle.group_finder.specs.Choices.{BestKept, choice_value}
 use Rattle.group_finder.proofs.Parities.{none_best}
 use Rattle.group_finder.proofs.GroupRows.{settled}
 use Rattle.group_finder.proofs.Sizes.{totalled-ends}
@@ -49,7 +49,7 @@ add-requires-2 g c =
     let o = c.by_parity-even.ensures.best.odd_small in
     let u = c.plus_minus-up.ensures.sum_size in
     let d = c.plus_minus-up.ensures.difference_size in
-    let h = c.better-best.ensures.small in
+    let h = c.better-best.ensures.sized in
     omega arith
 
 pub returns : goal.returns
@@ -59,10 +59,15 @@ returns g c =
     let s = c.args.self.now in
     let W : ℕ → ℤ = λ q. weight_at w s.readings.now (q * s.span + c.args.t) in
     let p = c.by_parity-even.result in
-    let v = c.by_parity-even.ensures in
-    let b = c.better-best.ensures.chosen v.even_choice v.odd_choice v.even_kept v.odd_kept in
-    let r = settled w z W (λ i. size_at z s.readings.now ((i + 1) * s.span + c.args.t)) s.count v.even_choice p.0.reading v.odd_choice p.1.reading v.best
-    c.plus_minus-up.result.0 c.plus_minus-up.result.1 c.add-2.result b.0 (w c.better-best.result.reading)
-    (c.plus_minus-up.ensures.sum ∙ ap (λ x. w p.0.reading +ℤ x) c.at-all.ensures.weighs) (c.plus_minus-up.ensures.difference ∙ ap (λ x. w p.1.reading +ℤ neg_ℤ x) c.at-all.ensures.weighs) b.1.1
-    (c.add-2.ensures.weighs ∙ ap (λ x. x +ℤ w c.better-best.result.reading) c.at-rest.ensures.weighs) in
-    record { choice = b.0; kept = b.1.0; top = r.0; weighs = r.1 }
+    let up = w c.plus_minus-up.result.0 in
+    let down = w c.plus_minus-up.result.1 in
+    let b = c.better-best.result in
+    let v = c.better-best.ensures in
+    let x = w b.reading in
+    subst (λ y. BestKept g.M.Message.keeps (choice_value W s.count) (2 ^ s.count) b.message y) (sym (c.add-2.ensures.weighs ∙ ap (λ y. y +ℤ x) c.at-rest.ensures.weighs))
+    (settled g.M.Message.keeps w z W (λ i. size_at z s.readings.now ((i + 1) * s.span + c.args.t)) s.count p.0.message p.0.reading p.1.message p.1.reading c.by_parity-even.ensures up down
+    (c.plus_minus-up.ensures.sum ∙ ap (λ y. w p.0.reading +ℤ y) c.at-all.ensures.weighs) (c.plus_minus-up.ensures.difference ∙ ap (λ y. w p.1.reading +ℤ neg_ℤ y) c.at-all.ensures.weighs)
+    b.message x
+    (λ h. (sym (ap (λ r. r.message) (v.second h)), ap (λ r. w r.reading) (v.second h)))
+    (λ h. (sym (ap (λ r. r.message) (v.first h)), ap (λ r. w r.reading) (v.first h)))
+    v.tie v.smaller)
