@@ -38,7 +38,7 @@ module _ {R : Type 0} (weight : R → ℤ) (size : R → ℕ) (S : ℕ → ℤ) 
       let os = inv.odd_small in
       record { even = x.0; odd = y.0; even_weighs = x.1; odd_weighs = y.1; even_small = omega arith; odd_small = omega arith }
 
-module _ {R : Type 0} (weight : R → ℤ) (size : R → ℕ) (S : ℕ → ℤ) (bulk : ℕ → ℕ) (j : ℕ) (s : R) (ws : weight s ≡ S j) (zs : size s ≡ bulk j) where
+module _ {R : Type 0} (weight : R → ℤ) (size : R → ℕ) (S : ℕ → ℤ) (bulk : ℕ → ℕ) (j : ℕ) (s : R) (zs : size s ≡ bulk j) where
   pub parity_room : (count m : ℕ) (a : R) (n : ℕ) (b : R) → ByParity weight size S bulk j m a n b → j < count → totalled count bulk ≤ sum_limit → max (size a) (size b) + size s ≤ sum_limit
   parity_room count m a n b inv h room =
       let t : totalled (j + 1) bulk ≡ totalled j bulk + bulk j = ap (λ (i : ℕ). totalled i bulk) (add-one j) in

@@ -27,3 +27,11 @@ totalled-ends n g =
     let f = totalled-front n g in
     let l : g (n + 1) ≡ g (suc n) = ap g (add-one n) in
     omega arith
+
+-- those between, and the first of them
+module _ (n : ℕ) (g : ℕ → ℕ) (limit : ℕ) (fits : totalled (n + 2) g ≤ limit) where
+  pub rows_fit : totalled n (λ i. g (i + 1)) ≤ limit
+  rows_fit = let e = totalled-ends n g in omega arith
+
+  pub first_fits : 1 ≤ n → g 1 ≤ limit
+  first_fits h = let r = rows_fit in let l = totalled_le (λ i. g (i + 1)) 1 n h in omega arith

@@ -67,7 +67,7 @@ fn search_group<R: Reading>(
     let span = choice_count(others.len());
     let slots = group_slots(group, others, places, span);
     fold(word, places, &slots, need, work)?;
-    let readings = &mut work[0..need];
+    let readings = &mut work[..need];
     transform_parts(readings, span, group.len() + 2);
     let lists = Lists {
         readings,
@@ -105,7 +105,7 @@ impl GroupFinder {
         ensures few { length result.now ≤ max_section_rows }
         ensures concur { Concur result.now }
     {
-        &self.plain.rows()[0..self.group]
+        &self.plain.rows()[..self.group]
     }
 
     // The rows after them.
@@ -114,8 +114,7 @@ impl GroupFinder {
         ensures count { length result.now ≡ length (take self.now.plain.count self.now.plain.rows) - self.now.group }
         ensures few { length result.now ≤ max_section_rows }
     {
-        let rows = self.plain.rows();
-        &rows[self.group..rows.len()]
+        &self.plain.rows()[self.group..]
     }
 }
 

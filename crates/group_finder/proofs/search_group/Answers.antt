@@ -1,4 +1,4 @@
-use Rattle.std.proofs.Common.{◌≡◌, ℕ, ◌+◌, ◌-◌, ◌*◌, ◌^◌, ◌<◌, ◌≤◌, map, length, get_or, take, pos, sum_by, sym, ap, ◌∙◌, arith, pow_mono}
+use Rattle.std.proofs.Common.{◌≡◌, ℕ, ◌+◌, ◌*◌, ◌^◌, ◌<◌, ◌≤◌, map, length, get_or, take, pos, sum_by, sym, ap, ◌∙◌, arith, pow_mono}
 use Rattle.std.proofs.lemmas.Nat.{pow_pos}
 use Rattle.std.proofs.lemmas.List.{length-take-le, length-map}
 use Rattle.std.proofs.lemmas.Slice.{drop-append-drop}
@@ -11,16 +11,27 @@ use Rattle.group_finder.specs.Concurring.{concurs_at}
 use Rattle.group_finder.proofs.Whole.{sizes_fit, value_agrees, whole_best}
 use Rattle.group_finder.proofs.search_group.Goals as goal
 
-pub group_slots-slots-requires : goal.group_slots-slots-requires
-group_slots-slots-requires g c =
-    record { few = (c.requires.few.0, c.requires.few.1, c.choice_count-span.ensures); concurs = concurs_at c.args.group.now c.requires.concur }
+pub group_slots-slots-requires-clause-concurs : goal.group_slots-slots-requires-clause-concurs
+group_slots-slots-requires-clause-concurs g c = concurs_at c.args.group.now c.requires.concur
 
 pub slice_bounds-readings-end : goal.slice_bounds-readings-end
 slice_bounds-readings-end g c =
-    let t = c.in_ok-fold.ensures.taken in
-    let f = (taken_facts c.args.places.places c.args.need (map g.R.Reading.size c.args.word.now) (length c.args.work.now) t).2 in
+    let f = (taken_facts c.args.places.places c.args.need (map g.R.Reading.size c.args.word.now) (length c.args.work.now) c.in_ok-fold.ensures.taken).2 in
     let k = c.fold.auto.work in
-    omega arith
+    let h : c.args.need ≤ length c.fold.new.work = omega arith in
+    h
+
+pub slice_bounds-readings-end-2 : goal.slice_bounds-readings-end-2
+slice_bounds-readings-end-2 g c =
+    let f = (taken_facts c.args.places.places c.args.need (map g.R.Reading.size c.args.word.now) (length c.args.work.now) c.in_ok-fold.ensures.taken).2 in
+    let k = c.fold.auto.work in
+    sym (length-take-le c.args.need c.fold.new.work (omega arith))
+
+pub transform_parts-requires-clause-long : goal.transform_parts-requires-clause-long
+transform_parts-requires-clause-long g c =
+    let f = (taken_facts c.args.places.places c.args.need (map g.R.Reading.size c.args.word.now) (length c.args.work.now) c.in_ok-fold.ensures.taken).2 in
+    let k = c.fold.auto.work in
+    length-take-le c.args.need c.fold.new.work (omega arith) ∙ c.requires.room ∙ ap (λ (x : ℕ). (length c.args.group.now + 2) * x) (sym c.choice_count-span.ensures)
 
 pub invariant_of-lists : goal.invariant_of-lists
 invariant_of-lists g c =
@@ -37,14 +48,12 @@ invariant_of-lists g c =
     let folded = c.in_ok-fold.ensures in
     let facts = (taken_facts c.args.places.places k (map z c.args.word.now) (length c.args.work.now) folded.taken).2 in
     let kept = c.fold.auto.work in
-    let s : k - 0 ≡ k = omega arith in
-    let room : k ≡ (length group + 2) * span = c.requires.room ∙ ap (λ (x : ℕ). (length group + 2) * x) (sym is) in
     let most = c.args.places.lawful.1 in
-    let small : sum_by z (take (k - 0) mid) ≤ sum_limit = (let t = folded.total in let e = ap (λ (j : ℕ). sum_by z (take j mid)) s in omega arith) in
+    let small : sum_by z (take k mid) ≤ sum_limit = (let t = folded.total in omega arith) in
     record {
       few = (c.requires.few.0, omega arith, omega arith);
-      long = c.transform_parts.auto.lists ∙ length-take-le (k - 0) mid (omega arith) ∙ s ∙ room;
-      small = λ t l. sizes_fit g.R.Reading.weight z span (length group + 2) t (take (k - 0) mid) c.transform_parts.new.lists c.transform_parts.ensures l small;
+      long = c.transform_parts.auto.lists ∙ length-take-le k mid (omega arith) ∙ c.requires.room ∙ ap (λ (x : ℕ). (length group + 2) * x) (sym is);
+      small = λ t l. sizes_fit g.R.Reading.weight z span (length group + 2) t (take k mid) c.transform_parts.new.lists c.transform_parts.ensures l small;
     }
 
 pub returns : goal.returns
@@ -69,13 +78,12 @@ returns g c =
     let kept = c.fold.auto.work in
     let e = length-map word z in
     let lw : n ≡ length word = omega arith in
-    let s : k - 0 ≡ k = omega arith in
-    let list = take (k - 0) mid in
-    let ll : length list ≡ k - 0 = length-take-le (k - 0) mid (omega arith) in
-    let room : length list ≡ (length group + 2) * span = ll ∙ s ∙ c.requires.room ∙ ap (λ (x : ℕ). (length group + 2) * x) (sym is) in
+    let list = take k mid in
+    let ll : length list ≡ k = length-take-le k mid (omega arith) in
+    let room : length list ≡ (length group + 2) * span = ll ∙ c.requires.room ∙ ap (λ (x : ℕ). (length group + 2) * x) (sym is) in
     let kinds = λ (i : ℕ) (l : i < length word). c.group_slots-slots.ensures.slots i (omega arith) in
     let entries = λ (i : ℕ) (l : i < length word). c.group_slots-slots.ensures.entries i (omega arith) in
-    let sums = λ (x : ℕ) (l : x < length list). at_take w (pos 0) (k - 0) mid x (omega arith) ∙ folded.sums x (omega arith) ∙ ap (λ (j : ℕ). sum_of_slot (λ i. get_or slots i 0) (weight_at w word) j x) lw in
+    let sums = λ (x : ℕ) (l : x < length list). at_take w (pos 0) k mid x (omega arith) ∙ folded.sums x (omega arith) ∙ ap (λ (j : ℕ). sum_of_slot (λ i. get_or slots i 0) (weight_at w word) j x) lw in
     let done = c.transform_parts.ensures in
     let m = c.best.result.message in
     let top = c.best.ensures.top in
@@ -83,5 +91,5 @@ returns g c =
       taken = folded.taken;
       is_best = whole_best w z group others slots word list final span is room kinds entries sums done m top;
       weighs = c.best.ensures.weighs ∙ value_agrees w z group others slots word list final span is room kinds entries sums done m top.within;
-      beyond = drop-append-drop (k - 0) mid final k (omega arith) (c.transform_parts.auto.lists ∙ ll) ∙ folded.beyond;
+      beyond = drop-append-drop k mid final k (omega arith) (c.transform_parts.auto.lists ∙ ll) ∙ folded.beyond;
     }

@@ -15,12 +15,6 @@ offset_bounds-lists-from g c =
     let k : c.loop-q.q * c.args.span ≤ length c.loop-q.lists = (let m = c.loop-q.auto.lists in omega arith) in
     search rules
 
-pub slice_bounds-transform-end : goal.slice_bounds-transform-end
-slice_bounds-transform-end g c =
-    let r = room g.R.Reading.weight g.R.Reading.size c.args.span c.loop-q.q c.args.count c.args.lists.now c.loop-q.lists c.loop-q.lists (c.loop-q.auto.lists ∙ c.requires.long) c.loop-q-test.true c.loop-q.invariant.1 in
-    let l = c.loop-q.auto.lists ∙ c.requires.long in
-    let h : c.loop-q.q * c.args.span + c.args.span ≤ length c.loop-q.lists = omega arith in
-    h
 
 pub loop-q-preserved : goal.loop-q-preserved
 loop-q-preserved g c =

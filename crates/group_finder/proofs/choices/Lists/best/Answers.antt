@@ -14,8 +14,6 @@ loop-t-init g c =
     let r = over_first f s.span s.count v.choice v.top in
     subst (λ (k : ℕ). BestBefore w f s.span s.count 1 k c.best_at-first.result.reading) v.kept (r.0, v.weighs ∙ r.1)
 
-pub loop-t-preserved : goal.loop-t-preserved
-loop-t-preserved g c = c.or_better_at-best.ensures c.loop-t.invariant
 
 pub returns : goal.returns
 returns g c =

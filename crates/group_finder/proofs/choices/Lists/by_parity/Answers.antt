@@ -1,17 +1,15 @@
-use Rattle.std.proofs.Common.{◌≡◌, ℕ, ◌+◌, ◌*◌, ◌%◌, ◌^◌, ◌≤◌, neg_ℤ, sym, ap, ◌∙◌, subst, arith}
+use Rattle.std.proofs.Common.{◌≡◌, ℕ, ◌+◌, ◌*◌, ◌%◌, ◌^◌, ◌≤◌, ℤ, neg_ℤ, ap, ◌∙◌, subst, arith}
 use Rattle.code.specs.Limits.{sum_limit}
 use Rattle.hadamard.specs.Transform.{weight_at, size_at}
 use Rattle.group_finder.specs.Choices.{KeptByParity, totalled}
 use Rattle.group_finder.proofs.GroupRows.{parity_step, parity_room, parity_first, bit_is, bit_small}
-use Rattle.group_finder.proofs.Sizes.{totalled_le, totalled-ends}
+use Rattle.group_finder.proofs.Sizes.{rows_fit, first_fits}
 use Rattle.group_finder.proofs.choices.Lists.by_parity.Goals as goal
 
 pub negate-requires : goal.negate-requires
 negate-requires g c =
     let s = c.args.self.now in
-    let e = totalled-ends s.count (λ q. size_at g.R.Reading.size s.readings.now (q * s.span + c.args.t)) in
-    let l = totalled_le (λ i. size_at g.R.Reading.size s.readings.now ((i + 1) * s.span + c.args.t)) 1 s.count c.requires.0 in
-    omega (arith, s.small c.args.t c.requires.1, c.at-first.ensures.sized)
+    omega (arith, first_fits s.count (λ q. size_at g.R.Reading.size s.readings.now (q * s.span + c.args.t)) sum_limit (s.small c.args.t c.requires.1) c.requires.0, c.at-first.ensures.sized)
 
 pub loop-j-init : goal.loop-j-init
 loop-j-init g c =
@@ -19,11 +17,10 @@ loop-j-init g c =
     let z = g.R.Reading.size in
     let s = c.args.self.now in
     let x = c.at-first.result in
-    let e = totalled-ends s.count (λ q. size_at z s.readings.now (q * s.span + c.args.t)) in
-    let l = totalled_le (λ i. size_at z s.readings.now ((i + 1) * s.span + c.args.t)) 1 s.count c.requires.0 in
-    let small : z x ≤ sum_limit = omega (arith, s.small c.args.t c.requires.1, c.at-first.ensures.sized) in
+    let f = first_fits s.count (λ q. size_at z s.readings.now (q * s.span + c.args.t)) sum_limit (s.small c.args.t c.requires.1) c.requires.0 in
     let wx = c.at-first.ensures.weighs in
     let zx = c.at-first.ensures.sized in
+    let small : z x ≤ sum_limit = omega arith in
     let n = c.negate.ensures in
     record {
       even_choice = 0;
@@ -46,15 +43,16 @@ extend-next-requires g c =
     let b = bit_is j j8 in
     let bs = bit_small j j8 in
     let o = inv.best.odd.within in
-    let e = totalled-ends s.count (λ q. size_at z s.readings.now (q * s.span + c.args.t)) in
-    let room : totalled s.count (λ i. size_at z s.readings.now ((i + 1) * s.span + c.args.t)) ≤ sum_limit = omega (arith, s.small c.args.t c.requires.1) in
     record {
-      size = parity_room w z (λ i. weight_at w s.readings.now ((i + 1) * s.span + c.args.t)) (λ i. size_at z s.readings.now ((i + 1) * s.span + c.args.t)) j c.at-s.result c.at-s.ensures.weighs c.at-s.ensures.sized s.count _ _ _ _ inv.best c.loop-j-test.true room;
+      size = parity_room w z (λ i. weight_at w s.readings.now ((i + 1) * s.span + c.args.t)) (λ i. size_at z s.readings.now ((i + 1) * s.span + c.args.t)) j c.at-s.result c.at-s.ensures.sized s.count _ _ _ _ inv.best c.loop-j-test.true
+          (rows_fit s.count (λ q. size_at z s.readings.now (q * s.span + c.args.t)) sum_limit (s.small c.args.t c.requires.1));
       fits = (inv.odd_choice, (inv.odd_kept, omega arith));
     }
 
 pub extend-odd-requires : goal.extend-odd-requires
 extend-odd-requires g c =
+    let w = g.R.Reading.weight in
+    let z = g.R.Reading.size in
     let s = c.args.self.now in
     let j = c.loop-j.j in
     let inv = c.loop-j.invariant in
@@ -63,9 +61,8 @@ extend-odd-requires g c =
     let b = bit_is j j8 in
     let bs = bit_small j j8 in
     let o = inv.best.even.within in
-    let e = totalled-ends s.count (λ q. size_at g.R.Reading.size s.readings.now (q * s.span + c.args.t)) in
-    let room : totalled s.count (λ i. size_at g.R.Reading.size s.readings.now ((i + 1) * s.span + c.args.t)) ≤ sum_limit = omega (arith, s.small c.args.t c.requires.1) in
-    let r = parity_room g.R.Reading.weight g.R.Reading.size (λ i. weight_at g.R.Reading.weight s.readings.now ((i + 1) * s.span + c.args.t)) (λ i. size_at g.R.Reading.size s.readings.now ((i + 1) * s.span + c.args.t)) j c.at-s.result c.at-s.ensures.weighs c.at-s.ensures.sized s.count _ _ _ _ inv.best c.loop-j-test.true room in
+    let r = parity_room w z (λ i. weight_at w s.readings.now ((i + 1) * s.span + c.args.t)) (λ i. size_at z s.readings.now ((i + 1) * s.span + c.args.t)) j c.at-s.result c.at-s.ensures.sized s.count _ _ _ _ inv.best c.loop-j-test.true
+    (rows_fit s.count (λ q. size_at z s.readings.now (q * s.span + c.args.t)) sum_limit (s.small c.args.t c.requires.1)) in
     record { size = omega arith; fits = (inv.even_choice, (inv.even_kept, omega arith)) }
 
 pub loop-j-preserved : goal.loop-j-preserved
@@ -90,10 +87,8 @@ loop-j-preserved g c =
 
 pub returns : goal.returns
 returns g c =
-    let w = g.R.Reading.weight in
-    let z = g.R.Reading.size in
     let s = c.args.self.now in
     let f0 = c.requires.0 in
     let e : c.loop-j.j ≡ s.count = omega arith in
-    subst (λ (k : ℕ). KeptByParity g.M.Message.keeps w z (λ i. weight_at w s.readings.now ((i + 1) * s.span + c.args.t)) (λ i. size_at z s.readings.now ((i + 1) * s.span + c.args.t)) k
+    subst (λ (k : ℕ). KeptByParity g.M.Message.keeps g.R.Reading.weight g.R.Reading.size (λ i. weight_at g.R.Reading.weight s.readings.now ((i + 1) * s.span + c.args.t)) (λ i. size_at g.R.Reading.size s.readings.now ((i + 1) * s.span + c.args.t)) k
     c.loop-j.even.message c.loop-j.even.reading c.loop-j.odd.message c.loop-j.odd.reading) e c.loop-j.invariant
