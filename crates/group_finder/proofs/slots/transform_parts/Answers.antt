@@ -15,7 +15,6 @@ offset_bounds-lists-from g c =
     let k : c.loop-q.q * c.args.span ≤ length c.loop-q.lists = (let m = c.loop-q.auto.lists in omega arith) in
     search rules
 
-
 pub loop-q-preserved : goal.loop-q-preserved
 loop-q-preserved g c =
     let w = g.R.Reading.weight in

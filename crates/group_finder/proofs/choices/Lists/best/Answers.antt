@@ -1,4 +1,4 @@
-use Rattle.std.proofs.Common.{◌≡◌, ℕ, ◌*◌, ◌^◌, ap, ◌∙◌, subst, arith}
+use Rattle.std.proofs.Common.{◌≡◌, ℕ, ◌*◌, ◌^◌, ◌∙◌, subst, arith}
 use Rattle.hadamard.specs.Transform.{weight_at}
 use Rattle.code.specs.Words.{Top}
 use Rattle.group_finder.specs.Choices.{BestBefore, group_value}
@@ -13,7 +13,6 @@ loop-t-init g c =
     let v = c.best_at-first.ensures in
     let r = over_first f s.span s.count v.choice v.top in
     subst (λ (k : ℕ). BestBefore w f s.span s.count 1 k c.best_at-first.result.reading) v.kept (r.0, v.weighs ∙ r.1)
-
 
 pub returns : goal.returns
 returns g c =

@@ -1,7 +1,7 @@
-use Rattle.std.proofs.Common.{◌≡◌, ℕ, ◌+◌, ◌*◌, ◌%◌, ◌^◌, ◌≤◌, ℤ, neg_ℤ, ap, ◌∙◌, subst, arith}
+use Rattle.std.proofs.Common.{◌≡◌, ℕ, ◌+◌, ◌*◌, ◌%◌, ◌^◌, ◌≤◌, neg_ℤ, ap, ◌∙◌, subst, arith}
 use Rattle.code.specs.Limits.{sum_limit}
 use Rattle.hadamard.specs.Transform.{weight_at, size_at}
-use Rattle.group_finder.specs.Choices.{KeptByParity, totalled}
+use Rattle.group_finder.specs.Choices.{KeptByParity}
 use Rattle.group_finder.proofs.GroupRows.{parity_step, parity_room, parity_first, bit_is, bit_small}
 use Rattle.group_finder.proofs.Sizes.{rows_fit, first_fits}
 use Rattle.group_finder.proofs.choices.Lists.by_parity.Goals as goal

@@ -1,4 +1,4 @@
-use Rattle.std.proofs.Common.{◌≡◌, ℕ, ◌+◌, ◌*◌, ◌%◌, ◌^◌, ◌<◌, sym, ap, ◌∙◌, subst, ap₂, arith}
+use Rattle.std.proofs.Common.{◌≡◌, ℕ, ◌+◌, ◌*◌, ◌%◌, ◌^◌, ◌<◌, sym, ◌∙◌, subst, ap₂, arith}
 use Rattle.std.proofs.lemmas.Nat.{shl_whole}
 use Rattle.hadamard.specs.Transform.{weight_at}
 use Rattle.finder.proofs.Picks.{less, not_less}
