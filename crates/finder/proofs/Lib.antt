@@ -1,3 +1,4 @@
 pub mod Refusals
 pub mod Folds
 pub mod Picks
+pub mod CardRows

@@ -3,6 +3,5 @@ pub mod Parities
 pub mod GroupRows
 pub mod SlotSums
 pub mod Over
-pub mod Weights
 pub mod Parts
 pub mod Whole

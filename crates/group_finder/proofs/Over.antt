@@ -3,7 +3,8 @@ use Rattle.std.proofs.Common.{◌≡◌, ℕ, ◌+◌, ◌*◌, ◌/◌, ◌%◌
 use lib.Arith.{digits_div, digits_mod}
 use Rattle.code.specs.Words.{Top}
 use Rattle.code.proofs.Tops.{top_same, top_takes, top_keeps}
-use Rattle.group_finder.specs.Choices.{choice_value, group_value}
+use Rattle.std.proofs.lemmas.Int.{ints}
+use Rattle.group_finder.specs.Choices.{BestBefore, choice_value, group_value}
 
 module _ (at : ℕ → ℤ) (span J : ℕ) where
   pub value_at : (t s : ℕ) → s < 2 ^ J → group_value at span J (s + t * 2 ^ J) ≡ choice_value (λ q. at (q * span + t)) J s
@@ -36,3 +37,14 @@ module _ (at : ℕ → ℤ) (span J : ℕ) where
       let e : 2 ^ J ≡ 1 * 2 ^ J = omega arith in
       let same : (j : ℕ) → j < 2 ^ J → choice_value (λ q. at (q * span + 0)) J j ≡ group_value at span J j = λ j l. sym (value_at 0 j l) ∙ ap (group_value at span J) (z j) in
       (subst (λ (k : ℕ). Top (group_value at span J) k n) e (top_same (choice_value (λ q. at (q * span + 0)) J) (group_value at span J) (2 ^ J) n same u), same n u.within)
+
+-- the choice t of the others, after those below it
+module _ {R : Type 0} (weight : R → ℤ) (at : ℕ → ℤ) (span J t m : ℕ) (x : R) (best : BestBefore weight at span J t m x) (n : ℕ) (y : ℤ) (top : Top (choice_value (λ q. at (q * span + t)) J) (2 ^ J) n) (weighs : y ≡ choice_value (λ q. at (q * span + t)) J n) where
+  pub keeps_best : y ≤ℤ weight x → BestBefore weight at span J (t + 1) m x
+  keeps_best h = let f = best.1 in (over_keeps at span J t m n best.0 top (omega (arith, ints)), best.1)
+
+  pub takes_best : weight x <ℤ y → (k : ℕ) (r : R) → Top (choice_value (λ q. at (q * span + t)) J) (2 ^ J) k → weight r ≡ choice_value (λ q. at (q * span + t)) J k → BestBefore weight at span J (t + 1) (k + t * 2 ^ J) r
+  takes_best h k r u wr =
+      let f = best.1 in
+      let l = u.greatest n top.within in
+      (over_takes at span J t m k best.0 u (omega (arith, ints)), wr ∙ sym (value_at at span J t k u.within))

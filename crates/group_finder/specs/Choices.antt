@@ -3,6 +3,7 @@ use Rattle.std.specs.Prelude.{◌≡◌, ℕ, zero, suc, ◌+◌, ◌-◌, ◌*�
 use Rattle.card.specs.Cards.{Card}
 use Rattle.hadamard.specs.Transform.{summed, odd_common, weight_at, size_at, spectrum}
 use Rattle.code.specs.Words.{Top, negated_if, odd}
+use Rattle.reading.specs.declared.Reading.{Ghosts as Kind}
 
 -- of the numbers below the limit that P admits, m is the smallest at which f is greatest
 pub record TopOf (P : ℕ → Bool) (f : ℕ → ℤ) (limit m : ℕ) : Type 0 where
@@ -41,35 +42,32 @@ abbrev pub slot_sum : (ℕ → ℕ) → (ℕ → ℕ) → (ℕ → ℤ) → ℕ 
 slot_sum slot col w n t q = summed n (λ i. cond (slot i == q) (negated_if (odd_common t (col i)) (w i)) (pos 0))
 
 -- the better of two extended choices, the first on a tie
-pub record Extended {R : Type 0} (weight : R → ℤ) (size : R → ℕ) (m : ℕ) (a : R) (n : ℕ) (b : R) (s : R) (bit : ℕ) (k : ℕ) (r : R) : Type 0 where
-  pub keeps : (weight b +ℤ neg_ℤ (weight s)) ≤ℤ (weight a +ℤ weight s) → (k ≡ m) × (weight r ≡ weight a +ℤ weight s)
-  pub takes : (weight a +ℤ weight s) <ℤ (weight b +ℤ neg_ℤ (weight s)) → (k ≡ n + bit) × (weight r ≡ weight b +ℤ neg_ℤ (weight s))
-  pub small : size r ≤ max (size a) (size b) + size s
-
--- the better of two, the one with the smaller message on a tie
-abbrev pub Chosen : {R : Type 0} → (R → ℤ) → ℕ → R → ℕ → R → ℕ → R → Type 0
-Chosen weight m a n b k r =
-    ((k ≡ m) × (r ≡ a) × ((weight b <ℤ weight a) ⊎ ((weight b ≤ℤ weight a) × (m < n))))
-    ⊎ ((k ≡ n) × (r ≡ b) × ((weight a <ℤ weight b) ⊎ ((weight a ≤ℤ weight b) × (n ≤ m))))
+pub record Extended {R : Type 0} (kind : Kind R) (m : ℕ) (a : R) (n : ℕ) (b : R) (s : R) (bit : ℕ) (k : ℕ) (r : R) : Type 0 where
+  pub keeps : (kind.weight b +ℤ neg_ℤ (kind.weight s)) ≤ℤ (kind.weight a +ℤ kind.weight s) → (k ≡ m) × (kind.weight r ≡ kind.weight a +ℤ kind.weight s)
+  pub takes : (kind.weight a +ℤ kind.weight s) <ℤ (kind.weight b +ℤ neg_ℤ (kind.weight s)) → (k ≡ n + bit) × (kind.weight r ≡ kind.weight b +ℤ neg_ℤ (kind.weight s))
+  pub small : kind.size r ≤ max (kind.size a) (kind.size b) + kind.size s
 
 -- the best choices of j rows of even and of odd number
-pub record ByParity {R : Type 0} (weight : R → ℤ) (size : R → ℕ) (S : ℕ → ℤ) (bulk : ℕ → ℕ) (j : ℕ) (m : ℕ) (a : R) (n : ℕ) (b : R) : Type 0 where
+pub record ByParity {R : Type 0} (kind : Kind R) (S : ℕ → ℤ) (bulk : ℕ → ℕ) (j : ℕ) (m : ℕ) (a : R) (n : ℕ) (b : R) : Type 0 where
   pub even : TopOf (of_parity false) (signs S j) (2 ^ j) m
   pub odd : TopOf (of_parity true) (signs S j) (2 ^ j) n
-  pub even_weighs : weight a ≡ signs S j m
-  pub odd_weighs : weight b ≡ signs S j n
-  pub even_small : size a ≤ totalled j bulk
-  pub odd_small : size b ≤ totalled j bulk
+  pub even_weighs : kind.weight a ≡ signs S j m
+  pub odd_weighs : kind.weight b ≡ signs S j n
+  pub even_small : kind.size a ≤ totalled j bulk
+  pub odd_small : kind.size b ≤ totalled j bulk
 
--- readings that weigh what the best choices of j rows of even and of odd number get
-pub record WeightsByParity {R : Type 0} (weight : R → ℤ) (size : R → ℕ) (S : ℕ → ℤ) (bulk : ℕ → ℕ) (j : ℕ) (a b : R) : Type 0 where
+-- the best choices of j rows of even and of odd number, with what is kept of their messages
+pub record KeptByParity {M R : Type 0} (keeps : M → ℕ → Type 0) (kind : Kind R) (S : ℕ → ℤ) (bulk : ℕ → ℕ) (j : ℕ) (m : M) (a : R) (n : M) (b : R) : Type 0 where
   pub even_choice : ℕ
   pub odd_choice : ℕ
-  pub best : ByParity weight size S bulk j even_choice a odd_choice b
+  pub even_kept : keeps m even_choice
+  pub odd_kept : keeps n odd_choice
+  pub best : ByParity kind S bulk j even_choice a odd_choice b
 
--- x is the greatest value of f below the limit
-pub record WeighsBest (f : ℕ → ℤ) (limit : ℕ) (x : ℤ) : Type 0 where
+-- x is the greatest value of f below the limit, and m what is kept of where it is first met
+pub record BestKept {M : Type 0} (keeps : M → ℕ → Type 0) (f : ℕ → ℤ) (limit : ℕ) (m : M) (x : ℤ) : Type 0 where
   pub choice : ℕ
+  pub kept : keeps m choice
   pub top : Top f limit choice
   pub weighs : x ≡ f choice
 
@@ -82,9 +80,9 @@ abbrev pub BestBefore : {R : Type 0} → (R → ℤ) → (ℕ → ℤ) → (span
 BestBefore weight at span J t m r = Top (group_value at span J) (t * 2 ^ J) m × (weight r ≡ group_value at span J m)
 
 -- the first n parts, each of so many entries, are transformed
-pub record PartsDone {R : Type 0} (weight : R → ℤ) (size : R → ℕ) (span n : ℕ) (old new : List R) : Type 0 where
-  pub weighs : (q : ℕ) → q < n → (t : ℕ) → t < span → weight_at weight new (q * span + t) ≡ spectrum (map weight (take span (drop (q * span) old))) t
-  pub small : (q : ℕ) → q < n → (t : ℕ) → t < span → size_at size new (q * span + t) ≤ sum_by size (take span (drop (q * span) old))
+pub record PartsDone {R : Type 0} (kind : Kind R) (span n : ℕ) (old new : List R) : Type 0 where
+  pub weighs : (q : ℕ) → q < n → (t : ℕ) → t < span → weight_at kind.weight new (q * span + t) ≡ spectrum (map kind.weight (take span (drop (q * span) old))) t
+  pub small : (q : ℕ) → q < n → (t : ℕ) → t < span → size_at kind.size new (q * span + t) ≤ sum_by kind.size (take span (drop (q * span) old))
 
 -- a column of J concurring rows: no digit 1, just one, or all
 abbrev pub Concurs : ℕ → ℕ → Type 0

@@ -1,12 +1,66 @@
-ghost use Rattle.std.specs.Prelude.{◌≡◌, ℕ, ◌+◌, ◌*◌, ◌^◌, ◌<◌, ◌≤◌, max, length, ◌+ℤ◌, neg_ℤ, if◌then◌else◌, int_lt};
+ghost use Rattle.std.specs.Prelude.{◌≡◌, ℕ, ◌+◌, ◌*◌, ◌^◌, ◌<◌, ◌≤◌, max, min, length, ◌+ℤ◌, ◌<ℤ◌, neg_ℤ, true, false};
 ghost use Rattle.card.specs.Cards.{max_section_rows};
 ghost use Rattle.code.specs.Limits.{sum_limit};
 ghost use Rattle.code.specs.Words.{Top};
 ghost use Rattle.hadamard.specs.Transform.{size_at, weight_at};
-ghost use Rattle.group_finder.specs.Choices.{BestBefore, ByParity, Chosen, Extended, WeighsBest, WeightsByParity, choice_value, group_value, totalled};
+ghost use Rattle.group_finder.specs.Choices.{BestBefore, BestKept, Extended, KeptByParity, choice_value, group_value, totalled};
 
 use finder::found::Found;
 use reading::Reading;
+
+// What is kept of a message: all of it in a `u32`, nothing in `()`, with which a search takes half the time.
+trait Message: Copy {
+    // Whether this may be what is kept of the number.
+    ghost keeps: { Self → ℕ → Type 0 };
+
+    fn of(number: u32) -> Self
+        ensures { keeps result number };
+
+    // The message with a digit 1 more.
+    fn plus(self, bit: u32) -> Self
+        requires { (n : ℕ) × (keeps self n × (n + bit < 2 ^ 32)) }
+        ensures { (n : ℕ) → keeps self n → keeps result (n + bit) };
+
+    // Whether this message is the smaller one; either may be, where nothing is kept.
+    fn precedes(self, other: Self) -> bool
+        ensures yes { (m n : ℕ) → keeps self m → keeps other n → result ≡ true → keeps self (min m n) }
+        ensures no { (m n : ℕ) → keeps self m → keeps other n → result ≡ false → keeps other (min m n) };
+}
+
+impl Message for u32 {
+    ghost keeps = { λ m n. n ≡ m };
+
+    fn of(number: u32) -> u32 {
+        number
+    }
+
+    fn plus(self, bit: u32) -> u32 {
+        self + bit
+    }
+
+    fn precedes(self, other: u32) -> bool {
+        self < other
+    }
+}
+
+impl Message for () {
+    ghost keeps = { λ _ _. Unit {0} };
+
+    fn of(_number: u32) {}
+
+    fn plus(self, _bit: u32) {}
+
+    fn precedes(self, _other: ()) -> bool {
+        true
+    }
+}
+
+// A choice of group rows: what is kept of its message, and a reading of what it gets.
+#[derive(Clone, Copy)]
+struct Choice<M, R> {
+    message: M,
+    reading: R,
+}
 
 // The sum of `a` and `s`, and the difference of `b` and `s`.
 fn plus_minus<R: Reading>(a: R, b: R, s: R) -> (R, R)
@@ -22,26 +76,33 @@ fn plus_minus<R: Reading>(a: R, b: R, s: R) -> (R, R)
 }
 
 // The better of `a` with the reading added and `b` with it taken away and the bit set, the first on a tie.
-fn extend<R: Reading>(a: Found<R>, b: Found<R>, s: R, bit: u32) -> Found<R>
+fn extend<M: Message, R: Reading>(a: Choice<M, R>, b: Choice<M, R>, s: R, bit: u32) -> Choice<M, R>
     requires size { max (R.Reading.size a.reading) (R.Reading.size b.reading) + R.Reading.size s ≤ sum_limit }
-    requires fits { b.message + bit < 2 ^ 32 }
-    ensures { Extended R.Reading.weight R.Reading.size a.message a.reading b.message b.reading s bit result.message result.reading }
+    requires fits { (n : ℕ) × (M.Message.keeps b.message n × (n + bit < 2 ^ 32)) }
+    ensures { (m n : ℕ) → M.Message.keeps a.message m → M.Message.keeps b.message n
+        → (k : ℕ) × (M.Message.keeps result.message k × Extended R.Reading m a.reading n b.reading s bit k result.reading) }
 {
     let (up, down) = plus_minus(a.reading, b.reading, s);
-    let first = Found {
-        message: a.message,
-        reading: up,
-    };
-    let second = Found {
-        message: b.message + bit,
-        reading: down,
-    };
-    first.or_heavier(second)
+    if up.below(down) {
+        Choice {
+            message: b.message.plus(bit),
+            reading: down,
+        }
+    } else {
+        Choice {
+            message: a.message,
+            reading: up,
+        }
+    }
 }
 
 // The better of two, the smaller message on a tie.
-fn better<R: Reading>(a: Found<R>, b: Found<R>) -> Found<R>
-    ensures { Chosen R.Reading.weight a.message a.reading b.message b.reading result.message result.reading }
+fn better<M: Message, R: Reading>(a: Choice<M, R>, b: Choice<M, R>) -> Choice<M, R>
+    ensures second { R.Reading.weight a.reading <ℤ R.Reading.weight b.reading → result ≡ b }
+    ensures first { R.Reading.weight b.reading <ℤ R.Reading.weight a.reading → result ≡ a }
+    ensures tie { R.Reading.weight a.reading ≡ R.Reading.weight b.reading → R.Reading.weight result.reading ≡ R.Reading.weight a.reading }
+    ensures smaller { R.Reading.weight a.reading ≡ R.Reading.weight b.reading → (m n : ℕ) → M.Message.keeps a.message m → M.Message.keeps b.message n → M.Message.keeps result.message (min m n) }
+    ensures sized { R.Reading.size result.reading ≤ max (R.Reading.size a.reading) (R.Reading.size b.reading) }
 {
     if a.reading.below(b.reading) {
         return b;
@@ -49,154 +110,118 @@ fn better<R: Reading>(a: Found<R>, b: Found<R>) -> Found<R>
     if b.reading.below(a.reading) {
         return a;
     }
-    if a.message < b.message { a } else { b }
+    if a.message.precedes(b.message) { a } else { b }
 }
 
-// The best choices of the group rows of even and of odd number, for the choice t of the others.
-fn by_parity<R: Reading>(lists: &[R], span: usize, t: usize, count: usize) -> (Found<R>, Found<R>)
-    requires few { (1 ≤ count) × (count ≤ max_section_rows) × (t < span) × (span ≤ 2 ^ max_section_rows) }
-    requires long { length lists.now ≡ (count + 2) * span }
-    requires small { totalled count (λ i. size_at R.Reading.size lists.now ((i + 1) * span + t)) ≤ sum_limit }
-    ensures { ByParity R.Reading.weight R.Reading.size (λ i. weight_at R.Reading.weight lists.now ((i + 1) * span + t)) (λ i. size_at R.Reading.size lists.now ((i + 1) * span + t)) count result.0.message result.0.reading result.1.message result.1.reading }
-{
-    let first = lists[span + t];
-    let mut even = Found {
-        message: 0,
-        reading: first,
-    };
-    let mut odd = Found {
-        message: 1,
-        reading: first.negate(),
-    };
-    for j in 1..count {
-        let s = lists[(j + 1) * span + t];
-        let bit = 1u32 << j;
-        let next = extend(even, odd, s, bit);
-        odd = extend(odd, even, s, bit);
-        even = next;
+// The transformed lists, one after the other, each of `span` readings: of no group digit, of each of `count` group rows alone, and of all of them.
+#[derive(Drop)]
+pub(crate) struct Lists<'a, R: Reading> {
+    pub(crate) readings: &'a [R],
+    pub(crate) span: usize,
+    pub(crate) count: usize,
+    ghost few: { (count ≤ max_section_rows) × (1 ≤ span) × (span ≤ 2 ^ max_section_rows) },
+    ghost long: { length readings.now ≡ (count + 2) * span },
+    ghost small: { (t : ℕ) → t < span → totalled (count + 2) (λ q. size_at R.Reading.size readings.now (q * span + t)) ≤ sum_limit },
+}
+
+impl<'a, R: Reading> Lists<'a, R> {
+    // Reading t of list q.
+    #[inline]
+    fn at(&self, q: usize, t: usize) -> R
+        requires { (q < self.now.count + 2) × (t < self.now.span) }
+        ensures weighs { R.Reading.weight result ≡ weight_at R.Reading.weight self.now.readings.now (q * self.now.span + t) }
+        ensures sized { R.Reading.size result ≡ size_at R.Reading.size self.now.readings.now (q * self.now.span + t) }
+    {
+        self.readings[q * self.span + t]
     }
-    (even, odd)
-}
 
-// The best choice of the group rows for the choice t of the others.
-fn best_choice<R: Reading>(lists: &[R], span: usize, t: usize, count: usize) -> Found<R>
-    requires few { (count ≤ max_section_rows) × (t < span) × (span ≤ 2 ^ max_section_rows) }
-    requires long { length lists.now ≡ (count + 2) * span }
-    requires small { size_at R.Reading.size lists.now t + totalled count (λ i. size_at R.Reading.size lists.now ((i + 1) * span + t)) + size_at R.Reading.size lists.now ((count + 1) * span + t) ≤ sum_limit }
-    ensures top { Top (choice_value (λ q. weight_at R.Reading.weight lists.now (q * span + t)) count) (2 ^ count) result.message }
-    ensures weighs { R.Reading.weight result.reading ≡ choice_value (λ q. weight_at R.Reading.weight lists.now (q * span + t)) count result.message }
-{
-    let rest = lists[t];
-    let all = lists[(count + 1) * span + t];
-    if count == 0 {
-        return Found {
-            message: 0,
-            reading: rest.add(all),
+    // The best choices of the group rows of even and of odd number, for the choice t of the others.
+    fn by_parity<M: Message>(&self, t: usize) -> (Choice<M, R>, Choice<M, R>)
+        requires { (1 ≤ self.now.count) × (t < self.now.span) }
+        ensures { KeptByParity M.Message.keeps R.Reading
+            (λ i. weight_at R.Reading.weight self.now.readings.now ((i + 1) * self.now.span + t)) (λ i. size_at R.Reading.size self.now.readings.now ((i + 1) * self.now.span + t))
+            self.now.count result.0.message result.0.reading result.1.message result.1.reading }
+    {
+        let first = self.at(1, t);
+        let mut even = Choice {
+            message: M::of(0),
+            reading: first,
         };
+        let mut odd = Choice {
+            message: M::of(1),
+            reading: first.negate(),
+        };
+        for j in 1..self.count {
+            let s = self.at(j + 1, t);
+            let bit = 1u32 << j;
+            let next = extend(even, odd, s, bit);
+            odd = extend(odd, even, s, bit);
+            even = next;
+        }
+        (even, odd)
     }
-    let (even, odd) = by_parity(lists, span, t, count);
-    let (up, down) = plus_minus(even.reading, odd.reading, all);
-    let first = Found {
-        message: even.message,
-        reading: up,
-    };
-    let second = Found {
-        message: odd.message,
-        reading: down,
-    };
-    let best = better(first, second);
-    Found {
-        message: best.message,
-        reading: rest.add(best.reading),
-    }
-}
 
-// The heavier of two readings.
-fn heavier<R: Reading>(a: R, b: R) -> R
-    ensures { result ≡ (if int_lt (R.Reading.weight a) (R.Reading.weight b) then b else a) }
-{
-    if a.below(b) { b } else { a }
-}
-
-// The reading of `extend`, whatever the messages.
-fn extend_weight<R: Reading>(a: R, b: R, s: R) -> R
-    requires { max (R.Reading.size a) (R.Reading.size b) + R.Reading.size s ≤ sum_limit }
-    ensures { (m n bit : ℕ) → (k : ℕ) × Extended R.Reading.weight R.Reading.size m a n b s bit k result }
-{
-    let (up, down) = plus_minus(a, b, s);
-    heavier(up, down)
-}
-
-// The readings of `by_parity`: without the messages they take half the time.
-fn weights_by_parity<R: Reading>(lists: &[R], span: usize, t: usize, count: usize) -> (R, R)
-    requires few { (1 ≤ count) × (count ≤ max_section_rows) × (t < span) × (span ≤ 2 ^ max_section_rows) }
-    requires long { length lists.now ≡ (count + 2) * span }
-    requires small { totalled count (λ i. size_at R.Reading.size lists.now ((i + 1) * span + t)) ≤ sum_limit }
-    ensures { WeightsByParity R.Reading.weight R.Reading.size (λ i. weight_at R.Reading.weight lists.now ((i + 1) * span + t)) (λ i. size_at R.Reading.size lists.now ((i + 1) * span + t)) count result.0 result.1 }
-{
-    let mut even = lists[span + t];
-    let mut odd = even.negate();
-    for j in 1..count {
-        let s = lists[(j + 1) * span + t];
-        let next = extend_weight(even, odd, s);
-        odd = extend_weight(odd, even, s);
-        even = next;
+    // The best choice of the group rows for the choice t of the others.
+    fn best_at<M: Message>(&self, t: usize) -> Choice<M, R>
+        requires { t < self.now.span }
+        ensures { BestKept M.Message.keeps (choice_value (λ q. weight_at R.Reading.weight self.now.readings.now (q * self.now.span + t)) self.now.count) (2 ^ self.now.count) result.message (R.Reading.weight result.reading) }
+    {
+        let rest = self.at(0, t);
+        let all = self.at(self.count + 1, t);
+        if self.count == 0 {
+            return Choice {
+                message: M::of(0),
+                reading: rest.add(all),
+            };
+        }
+        let (even, odd) = self.by_parity(t);
+        let (up, down) = plus_minus(even.reading, odd.reading, all);
+        let first = Choice {
+            message: even.message,
+            reading: up,
+        };
+        let second = Choice {
+            message: odd.message,
+            reading: down,
+        };
+        let best: Choice<M, R> = better(first, second);
+        Choice {
+            message: best.message,
+            reading: rest.add(best.reading),
+        }
     }
-    (even, odd)
-}
 
-// A reading that weighs what the best choice of the group rows gets, for the choice t of the others.
-fn best_weight<R: Reading>(lists: &[R], span: usize, t: usize, count: usize) -> R
-    requires few { (count ≤ max_section_rows) × (t < span) × (span ≤ 2 ^ max_section_rows) }
-    requires long { length lists.now ≡ (count + 2) * span }
-    requires small { size_at R.Reading.size lists.now t + totalled count (λ i. size_at R.Reading.size lists.now ((i + 1) * span + t)) + size_at R.Reading.size lists.now ((count + 1) * span + t) ≤ sum_limit }
-    ensures { WeighsBest (choice_value (λ q. weight_at R.Reading.weight lists.now (q * span + t)) count) (2 ^ count) (R.Reading.weight result) }
-{
-    let rest = lists[t];
-    let all = lists[(count + 1) * span + t];
-    if count == 0 {
-        return rest.add(all);
+    // The best so far, or the best for the choice t of the other rows where that is better: its message is sought only there.
+    fn or_better_at(&self, best: Found<R>, t: usize) -> Found<R>
+        requires { t < self.now.span }
+        ensures { BestBefore R.Reading.weight (weight_at R.Reading.weight self.now.readings.now) self.now.span self.now.count t best.message best.reading → BestBefore R.Reading.weight (weight_at R.Reading.weight self.now.readings.now) self.now.span self.now.count (t + 1) result.message result.reading }
+    {
+        let weight = self.best_at::<()>(t);
+        if !best.reading.below(weight.reading) {
+            return best;
+        }
+        let found = self.best_at::<u32>(t);
+        Found {
+            message: found.message + ((t as u32) << self.count),
+            reading: found.reading,
+        }
     }
-    let (even, odd) = weights_by_parity(lists, span, t, count);
-    let (up, down) = plus_minus(even, odd, all);
-    rest.add(heavier(up, down))
-}
 
-// The best so far, or the best for the choice t of the other rows where that is better.
-fn or_better_at<R: Reading>(
-    best: Found<R>,
-    lists: &[R],
-    span: usize,
-    t: usize,
-    count: usize,
-) -> Found<R>
-    requires few { (count ≤ max_section_rows) × (t < span) × (span ≤ 2 ^ max_section_rows) }
-    requires long { length lists.now ≡ (count + 2) * span }
-    requires small { size_at R.Reading.size lists.now t + totalled count (λ i. size_at R.Reading.size lists.now ((i + 1) * span + t)) + size_at R.Reading.size lists.now ((count + 1) * span + t) ≤ sum_limit }
-    ensures { BestBefore R.Reading.weight (weight_at R.Reading.weight lists.now) span count t best.message best.reading → BestBefore R.Reading.weight (weight_at R.Reading.weight lists.now) span count (t + 1) result.message result.reading }
-{
-    let weight = best_weight(lists, span, t, count);
-    if !best.reading.below(weight) {
-        return best;
+    // The best message, and a reading that weighs what it gets.
+    // Not inlined: a span that the compiler does not know as a power of two is added from list to list, not shifted anew.
+    #[inline(never)]
+    pub(crate) fn best(&self) -> Found<R>
+        ensures top { Top (group_value (weight_at R.Reading.weight self.now.readings.now) self.now.span self.now.count) (self.now.span * 2 ^ self.now.count) result.message }
+        ensures weighs { R.Reading.weight result.reading ≡ group_value (weight_at R.Reading.weight self.now.readings.now) self.now.span self.now.count result.message }
+    {
+        let first = self.best_at::<u32>(0);
+        let mut best = Found {
+            message: first.message,
+            reading: first.reading,
+        };
+        for t in 1..self.span {
+            best = self.or_better_at(best, t);
+        }
+        best
     }
-    let found = best_choice(lists, span, t, count);
-    Found {
-        message: found.message + ((t as u32) << count),
-        reading: found.reading,
-    }
-}
-
-// The best message by the transformed lists, one after the other: no group digit, each group row alone, all of them.
-pub(crate) fn over_choices<R: Reading>(lists: &[R], span: usize, count: usize) -> Found<R>
-    requires few { (count ≤ max_section_rows) × (1 ≤ span) × (span ≤ 2 ^ max_section_rows) }
-    requires long { length lists.now ≡ (count + 2) * span }
-    requires small { (t : ℕ) → t < span → size_at R.Reading.size lists.now t + totalled count (λ i. size_at R.Reading.size lists.now ((i + 1) * span + t)) + size_at R.Reading.size lists.now ((count + 1) * span + t) ≤ sum_limit }
-    ensures top { Top (group_value (weight_at R.Reading.weight lists.now) span count) (span * 2 ^ count) result.message }
-    ensures weighs { R.Reading.weight result.reading ≡ group_value (weight_at R.Reading.weight lists.now) span count result.message }
-{
-    let mut best = best_choice(lists, span, 0, count);
-    for t in 1..span {
-        best = or_better_at(best, lists, span, t, count);
-    }
-    best
 }

@@ -6,13 +6,14 @@ mod slots;
 ghost use Rattle.std.specs.Prelude.{◌≡◌, ℕ, ◌+◌, ◌-◌, ◌^◌, ◌≤◌, ◌++◌, map, length, take, MatchResult};
 ghost use Rattle.card.specs.Cards.{Lawful, max_section_rows};
 ghost use Rattle.card.specs.Rows.{Concur};
+ghost use Rattle.code.specs.Limits.{Length};
 ghost use Rattle.finder.specs.Search.{Answered, Refused};
 ghost use Rattle.finder.specs.OfCard.{card_meaning, plain_need_of};
 ghost use Rattle.group_finder.specs.Choices.{group_need, group_need_of};
 ghost use Rattle.std.proofs.Common.{arith};
 ghost use Rattle.group_finder.specs.Concurring.{group_lawful};
 
-use crate::choices::over_choices;
+use crate::choices::Lists;
 use crate::slots::{group_slots, transform_parts};
 use card::states::FinishedCard;
 use code::length::WordLength;
@@ -60,6 +61,7 @@ fn search_group<R: Reading>(
 ) -> Result<Found<R>, Refusal>
     requires few { (length group.now ≤ max_section_rows) × (length others.now ≤ max_section_rows) }
     requires concur { Concur group.now }
+    requires sized { Length places }
     requires room { need ≡ group_need (length group.now) (length others.now) }
     ensures { MatchResult result
         (Answered R.Reading (record { span = places; rows = group.now ++ others.now; need = need }) word.now work.old work.new)
@@ -67,14 +69,15 @@ fn search_group<R: Reading>(
 {
     let span = choice_count(others.len());
     let slots = group_slots(group, others, places, span);
-    match fold(word, places, &slots, need, work) {
-        Ok(()) => {
-            let lists = &mut work[0..need];
-            transform_parts(lists, span, others.len(), group.len() + 2);
-            Ok(over_choices(lists, span, group.len()))
-        }
-        Err(refusal) => Err(refusal),
-    }
+    fold(word, places, &slots, need, work)?;
+    let readings = &mut work[..need];
+    transform_parts(readings, span, group.len() + 2);
+    let lists = Lists {
+        readings,
+        span,
+        count: group.len(),
+    };
+    Ok(lists.best())
 }
 
 // The group finder of the plain finder's rows, the first `group` of which are the card's group.
@@ -105,7 +108,7 @@ impl GroupFinder {
         ensures few { length result.now ≤ max_section_rows }
         ensures concur { Concur result.now }
     {
-        &self.plain.rows()[0..self.group]
+        &self.plain.rows()[..self.group]
     }
 
     // The rows after them.
@@ -114,8 +117,7 @@ impl GroupFinder {
         ensures count { length result.now ≡ length self.now.plain.rows - self.now.group }
         ensures few { length result.now ≤ max_section_rows }
     {
-        let rows = self.plain.rows();
-        &rows[self.group..rows.len()]
+        &self.plain.rows()[self.group..]
     }
 }
 
@@ -136,7 +138,7 @@ impl Finder for GroupFinder {
         let b = s.few.1 in
         let d = s.few.2 in
         let l : length rows ≡ s.group + (length rows - s.group) = omega arith in
-        group_lawful s.plain.span rows s.group (length rows - s.group) l s.plain.span.lawful (omega arith) s.plain.within };
+        group_lawful s.plain.span rows s.group (length rows - s.group) l s.plain.sized (omega arith) s.plain.within };
 
     fn length(&self) -> WordLength {
         self.plain.length()

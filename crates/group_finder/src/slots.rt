@@ -14,12 +14,11 @@ fn single_slot(c: usize, count: usize) -> Option<usize>
     requires { (count ≤ max_section_rows) × (Concurs count c) }
     ensures { MatchOption result ((c ≢ 0) → Slotted count c (count + 1)) (λ q. Slotted count c q) }
 {
-    for j in 0..count {
-        if c == 1usize << j {
-            return Some(j + 1);
-        }
+    if c.is_power_of_two() {
+        Some(c.trailing_zeros() as usize + 1)
+    } else {
+        None
     }
-    None
 }
 
 // The slot of a place by its column of the group rows: 0 where no row has digit 1 there, j + 1 where row j alone has it, count + 1 where all of at least two have it.
@@ -30,13 +29,11 @@ fn slot_of(c: usize, count: usize) -> usize
     if c == 0 {
         return 0;
     }
-    match single_slot(c, count) {
-        Some(slot) => slot,
-        None => count + 1,
-    }
+    single_slot(c, count).unwrap_or(count + 1)
 }
 
 // For each place of a word the entry that its reading goes to: its slot's list, and there its column of the other rows.
+// A loop by number: beyond the word's places nothing is known of the two columns.
 pub(crate) fn group_slots(
     group: &[u64],
     others: &[u64],
@@ -50,7 +47,7 @@ pub(crate) fn group_slots(
 {
     let groups = columns(group, places);
     let mut slots = columns(others, places);
-    for i in 0..places() {
+    for i in 0..places.places() {
         let slot = slot_of(groups[i], group.len());
         slots[i] = slot * span + slots[i];
     }
@@ -58,11 +55,13 @@ pub(crate) fn group_slots(
 }
 
 // Transforms each of so many lists that lie one after the other.
-pub(crate) fn transform_parts<R: Reading>(lists: &mut [R], span: usize, power: usize, count: usize)
-    requires power { (power ≤ max_section_rows) × (span ≡ 2 ^ power) × (count ≤ max_section_rows + 2) }
+// A loop by number: a proof knows no element of a slice after `chunks_exact_mut`.
+pub(crate) fn transform_parts<R: Reading>(lists: &mut [R], span: usize, count: usize)
+    requires power { (t : ℕ) × ((t ≤ max_section_rows) × (span ≡ 2 ^ t)) }
+    requires few { count ≤ max_section_rows + 2 }
     requires long { length lists.old ≡ count * span }
     requires small { sum_by R.Reading.size lists.old ≤ sum_limit }
-    ensures { PartsDone R.Reading.weight R.Reading.size span count lists.old lists.new }
+    ensures { PartsDone R.Reading span count lists.old lists.new }
 {
     for q in 0..count {
         let from = q * span;

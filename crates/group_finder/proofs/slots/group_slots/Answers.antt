@@ -53,7 +53,7 @@ loop-i-preserved c =
     let v = q * span + old in
     let long : length xs ≡ 64 = c.loop-i.invariant.0 in
     let within : i < c.args.places = (let p = c.places-i-end.ensures.value in omega arith) in
-    let most = c.args.places.lawful.1 in
+    let most = c.places-i-end.ensures.lawful.1 in
     let low : i < length xs = omega arith in
     let d : old ≡ column others i = c.loop-i.invariant.3 i (omega arith) c.loop-i-test.true in
     let g : get_or c.columns-groups.result i 0 ≡ column group i = c.columns-groups.ensures i within ∙ few_column group i c.requires.few.0 in

@@ -9,18 +9,11 @@ use Rattle.group_finder.proofs.slots.transform_parts.Goals as goal
 
 pub offset_bounds-lists-from : goal.offset_bounds-lists-from
 offset_bounds-lists-from g c =
-    let r = room g.R.Reading.weight g.R.Reading.size c.args.span c.loop-q.q c.args.count c.args.lists.now c.loop-q.lists c.loop-q.lists (c.loop-q.auto.lists ∙ c.requires.long) c.loop-q-test.true c.loop-q.invariant.1 in
+    let r = room g.R.Reading c.args.span c.loop-q.q c.args.count c.args.lists.now c.loop-q.lists c.loop-q.lists (c.loop-q.auto.lists ∙ c.requires.long) c.loop-q-test.true c.loop-q.invariant.1 in
     let l = c.requires.long in
     let h : c.loop-q.q * c.args.span ≤ length c.args.lists.now = omega arith in
     let k : c.loop-q.q * c.args.span ≤ length c.loop-q.lists = (let m = c.loop-q.auto.lists in omega arith) in
     search rules
-
-pub slice_bounds-transform-end : goal.slice_bounds-transform-end
-slice_bounds-transform-end g c =
-    let r = room g.R.Reading.weight g.R.Reading.size c.args.span c.loop-q.q c.args.count c.args.lists.now c.loop-q.lists c.loop-q.lists (c.loop-q.auto.lists ∙ c.requires.long) c.loop-q-test.true c.loop-q.invariant.1 in
-    let l = c.loop-q.auto.lists ∙ c.requires.long in
-    let h : c.loop-q.q * c.args.span + c.args.span ≤ length c.loop-q.lists = omega arith in
-    h
 
 pub loop-q-preserved : goal.loop-q-preserved
 loop-q-preserved g c =
@@ -36,14 +29,14 @@ loop-q-preserved g c =
     let low = c.loop-q-test.true in
     let rest = c.loop-q.invariant.1 in
     let k : q * span + span - q * span ≡ span = omega arith in
-    let mid : take (q * span + span - q * span) (drop (q * span) cur) ≡ take span (drop (q * span) old) = ap (λ (j : ℕ). take j (drop (q * span) cur)) k ∙ part_same w z span q count old cur ys long low rest in
-    let lmid : length (take (q * span + span - q * span) (drop (q * span) cur)) ≡ span = ap (λ (j : ℕ). length (take j (drop (q * span) cur))) k ∙ part_long w z span q count old cur ys long low rest in
-    let small : sum_by z (take (q * span + span - q * span) (drop (q * span) cur)) ≤ sum_limit = (let e = ap (sum_by z) mid in let s = part_small w z span q count old cur ys long low rest c.requires.small in omega arith) in
-    let tr : Transformed w z (take (q * span + span - q * span) (drop (q * span) cur)) ys =
-    transform_taken c.transform.result (Transformed w z (take (q * span + span - q * span) (drop (q * span) cur)) ys) (λ _. ys ≡ take (q * span + span - q * span) (drop (q * span) cur))
-    (length (take (q * span + span - q * span) (drop (q * span) cur))) (sum_by z (take (q * span + span - q * span) (drop (q * span) cur))) c.args.power (let q = c.requires.power.0 in omega arith) (lmid ∙ c.requires.power.1) small c.transform.ensures.value c.transform.ensures.list in
-    let tr' = subst (λ (l : List g.row.R.Denot). Transformed w z l ys) mid tr in
+    let mid : take (q * span + span - q * span) (drop (q * span) cur) ≡ take span (drop (q * span) old) = ap (λ (j : ℕ). take j (drop (q * span) cur)) k ∙ part_same g.R.Reading span q count old cur ys long low rest in
+    let lmid : length (take (q * span + span - q * span) (drop (q * span) cur)) ≡ span = ap (λ (j : ℕ). length (take j (drop (q * span) cur))) k ∙ part_long g.R.Reading span q count old cur ys long low rest in
+    let small : sum_by z (take (q * span + span - q * span) (drop (q * span) cur)) ≤ sum_limit = (let e = ap (sum_by z) mid in let s = part_small g.R.Reading span q count old cur ys long low rest c.requires.small in omega arith) in
+    let tr : Transformed g.R.Reading (take (q * span + span - q * span) (drop (q * span) cur)) ys =
+    transform_taken c.transform.result (Transformed g.R.Reading (take (q * span + span - q * span) (drop (q * span) cur)) ys) (λ _. ys ≡ take (q * span + span - q * span) (drop (q * span) cur))
+    (length (take (q * span + span - q * span) (drop (q * span) cur))) (sum_by z (take (q * span + span - q * span) (drop (q * span) cur))) c.requires.power.0 (let q = c.requires.power.1.0 in omega arith) (lmid ∙ c.requires.power.1.1) small c.transform.ensures.value c.transform.ensures.list in
+    let tr' = subst (λ (l : List g.row.R.Denot). Transformed g.R.Reading l ys) mid tr in
     let lys : length ys ≡ span = c.transform.auto.list ∙ lmid in (
-      subst (λ (j : ℕ). PartsDone w z span (q + 1) old (put_mid (q * span) j cur ys)) (sym k) (parts_step w z span q count old cur ys long low rest lys c.loop-q.invariant.0 tr'),
-      subst (λ (j : ℕ). drop ((q + 1) * span) (put_mid (q * span) j cur ys) ≡ drop ((q + 1) * span) old) (sym k) (parts_rest w z span q count old cur ys long low rest lys c.loop-q.invariant.0 tr'),
+      subst (λ (j : ℕ). PartsDone g.R.Reading span (q + 1) old (put_mid (q * span) j cur ys)) (sym k) (parts_step g.R.Reading span q count old cur ys long low rest lys c.loop-q.invariant.0 tr'),
+      subst (λ (j : ℕ). drop ((q + 1) * span) (put_mid (q * span) j cur ys) ≡ drop ((q + 1) * span) old) (sym k) (parts_rest g.R.Reading span q count old cur ys long low rest lys c.loop-q.invariant.0 tr'),
     )

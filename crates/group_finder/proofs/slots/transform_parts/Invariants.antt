@@ -3,4 +3,4 @@ use Rattle.group_finder.specs.Choices.{PartsDone}
 use Rattle.group_finder.proofs.slots.transform_parts.Given as goal
 
 abbrev pub invariant-loop-q : goal.invariant-loop-q
-invariant-loop-q g l = PartsDone g.R.Reading.weight g.R.Reading.size l.span l.q l.initial.lists l.lists × (drop (l.q * l.span) l.lists ≡ drop (l.q * l.span) l.initial.lists)
+invariant-loop-q g l = PartsDone g.R.Reading l.span l.q l.initial.lists l.lists × (drop (l.q * l.span) l.lists ≡ drop (l.q * l.span) l.initial.lists)

@@ -1,6 +1,0 @@
-use Rattle.hadamard.specs.Transform.{weight_at}
-use Rattle.group_finder.specs.Choices.{BestBefore}
-use Rattle.group_finder.proofs.choices.over_choices.Given as goal
-
-abbrev pub invariant-loop-t : goal.invariant-loop-t
-invariant-loop-t g l = BestBefore g.R.Reading.weight (weight_at g.R.Reading.weight l.lists) l.span l.count l.t l.best.message l.best.reading
