@@ -56,7 +56,7 @@ rows_pushed k Group row e = last_of_group k.group k.transform k.coset row e.0 e.
 rows_pushed k Transform row e = last_of_transform k.group k.transform k.coset row e
 rows_pushed k Coset row e = simp append_assoc
 
-none_after_pushed : (k : Card) (s : Section) (row : ℕ) → NoneAfter k s → NoneAfter (pushed k s row) s
+pub none_after_pushed : (k : Card) (s : Section) (row : ℕ) → NoneAfter k s → NoneAfter (pushed k s row) s
 none_after_pushed k Group row e = e
 none_after_pushed k Transform row e = e
 none_after_pushed k Coset row e = e

@@ -1,14 +1,12 @@
 -- The bytes of a card file, written and read.
-use Rattle.std.proofs.Common.{◌≡◌, ℕ, zero, suc, ◌+◌, ◌-◌, ◌*◌, ◌<◌, ◌≤◌, Bool, true, false, cond, ◌&&◌, List, [], ◌∷◌, ◌++◌, length, get_or, take, drop, set, Ok, Err, Result, sym, refl, ap, ◌∙◌, ap₂, append_assoc, arith, length-append}
-use Rattle.std.proofs.lemmas.List.{take_at, drop_at, drop-drop, length-take-le, append-nil, drop_more, drop_all}
-use Rattle.std.proofs.lemmas.Bool.{lt-ltb, le-ltb, le-leb}
+use Rattle.std.proofs.Common.{◌≡◌, ℕ, zero, suc, ◌+◌, ◌-◌, ◌*◌, ◌<◌, ◌≤◌, Bool, cond, List, [], ◌∷◌, ◌++◌, length, take, drop, set, Ok, Err, Result, sym, refl, ap, ◌∙◌, ap₂, append_assoc, arith, length-append}
+use Rattle.std.proofs.lemmas.List.{take_at, drop_at, drop-drop, length-take-le, append-nil}
+use Rattle.std.proofs.lemmas.Bool.{lt-ltb, le-ltb}
 use Rattle.code.specs.declared.refusal.Section.{Section}
-use Rattle.code.specs.declared.refusal.Section.TheVariants.{Group, Transform, Coset}
 use Rattle.code.specs.declared.refusal.Refusal.{Refusal}
-use Rattle.code.specs.declared.refusal.Refusal.TheVariants.{BytesEndEarly, LengthOutOfRange}
-use Rattle.code.specs.Limits.{Length}
-use Rattle.card.specs.Cards.{Card, verdict, pushed, blank}
-use Rattle.card_file.specs.Files.{row_bytes, row_of, rows_bytes, section_bytes, file_of, read_rows_lem, read_section_lem, read_sections_lem, is_none, Reading, on_ok}
+use Rattle.code.specs.declared.refusal.Refusal.TheVariants.{BytesEndEarly}
+use Rattle.card.specs.Cards.{Card, verdict, pushed}
+use Rattle.card_file.specs.Files.{row_bytes, row_of, rows_bytes, section_bytes, file_of, read_rows_lem, on_ok}
 
 pub bytes_push : (xs : List ℕ) (r : ℕ) → rows_bytes (xs ++ r ∷ []) ≡ rows_bytes xs ++ row_bytes r
 bytes_push [] r = append-nil (row_bytes r)
@@ -55,33 +53,6 @@ read_more s (suc n) k bs u h l v =
     ap (λ (b : Bool). cond b (Err BytesEndEarly) (on_ok (verdict k s row) (λ _. read_rows_lem s n (pushed k s row) (drop 8 bs)))) t
     ∙ ap (λ (r : Result (Unit {0}) Refusal). on_ok r (λ _. read_rows_lem s n (pushed k s row) (drop 8 bs))) (sym v)
     ∙ ap (λ (j : ℕ). read_rows_lem s j (pushed k s row) (drop 8 bs)) m
-
--- ---- a whole file
-
--- a file read section by section, each into the card that the one before left
-pub read_card_is : (bytes : List ℕ) (n : ℕ) (k₀ k₁ k₁' k₂ k₂' k₃ : Card) (g t e : ℕ) → 0 < length bytes
-    → n ≡ get_or bytes 0 0 → Length n → k₀ ≡ blank n → k₁' ≡ k₁ → k₂' ≡ k₂
-    → Ok (record { card = k₁; left = drop g bytes }) ≡ read_section_lem Group k₀ (drop 1 bytes)
-    → Ok (record { card = k₂; left = drop t bytes }) ≡ read_section_lem Transform k₁' (drop g bytes)
-    → Ok (record { card = k₃; left = drop e bytes }) ≡ read_section_lem Coset k₂' (drop t bytes)
-    → Ok (record { card = k₃; left = drop e bytes }) ≡ read_sections_lem bytes
-read_card_is bytes n k₀ k₁ k₁' k₂ k₂' k₃ g t e some first (lo, hi) is same₁ same₂ a b d =
-    let third : Reading → Result Reading Refusal = λ q. read_section_lem Coset q.card q.left in
-    let second : Reading → Result Reading Refusal = λ q. on_ok (read_section_lem Transform q.card q.left) third in
-    sym (ap read_sections_lem (drop_more bytes 0 0 some ∙ ap (λ (m : ℕ). m ∷ drop 1 bytes) (sym first))
-    ∙ ap₂ (λ (x y : Bool). cond (x && y) (on_ok (read_section_lem Group (blank n) (drop 1 bytes)) second) (Err LengthOutOfRange)) (le-leb 1 n lo) (le-leb n 64 hi)
-    ∙ ap (λ (k : Card). on_ok (read_section_lem Group k (drop 1 bytes)) second) (sym is)
-    ∙ ap (λ (q : Result Reading Refusal). on_ok q second) (sym a)
-    ∙ ap (λ (k : Card). on_ok (read_section_lem Transform k (drop g bytes)) third) (sym same₁)
-    ∙ ap (λ (q : Result Reading Refusal). on_ok q third) (sym b)
-    ∙ ap (λ (k : Card). read_section_lem Coset k (drop t bytes)) (sym same₂)
-    ∙ sym d)
-
-pub none_at : (bytes : List ℕ) (at : ℕ) → length bytes ≤ at → is_none (drop at bytes) ≡ true
-none_at bytes at h = ap is_none (drop_all at bytes h)
-
-pub some_at : (bytes : List ℕ) (at : ℕ) → at < length bytes → is_none (drop at bytes) ≡ false
-some_at bytes at h = ap is_none (drop_more bytes at 0 h)
 
 -- ---- a file written section by section
 

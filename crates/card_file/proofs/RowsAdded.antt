@@ -7,61 +7,36 @@ use Rattle.code.specs.declared.refusal.Section.TheVariants.{Group, Transform, Co
 use Rattle.code.specs.declared.refusal.Refusal.{Refusal}
 use Rattle.code.specs.declared.refusal.Refusal.TheVariants.{DigitBeyondLength, SectionFull, DependentRow, ConcurrenceBroken, BytesEndEarly, BytesLeftOver, LengthOutOfRange}
 use Rattle.code.specs.Limits.{Length}
-use Rattle.code.specs.Spans.{Independent, Span}
-use Rattle.code.proofs.Spans.{independent_push}
-use Rattle.card.specs.Rows.{Within, Concur, dependent}
-use Rattle.card.specs.Cards.{Card, Lawful, Keeps, RowTold, blank, keeps, pushed, rows_of, section_of, max_section_rows, verdict}
+use Rattle.code.specs.Spans.{Span}
+use Rattle.card.specs.Rows.{Within, dependent}
+use Rattle.card.specs.Cards.{Card, Lawful, Keeps, NoneAfter, RowTold, blank, keeps, pushed, rows_of, section_of, max_section_rows, verdict}
 use Rattle.card.proofs.Decided.{dependent_from_span, span_from_dependent, concordant_from, concur_from_concordant}
+use Rattle.card.proofs.Pushes.{lawful_pushed, none_after_pushed, passed, rows_pushed}
 use Rattle.card.proofs.Tables.{within_push, within_left, verdict_dependent, verdict_concurrence, verdict_ok}
 use Rattle.card_list.specs.declared.requests.Request.{Request}
 use Rattle.card_list.specs.declared.requests.Request.TheVariants.{AddRow, MoveOn}
 use Rattle.card_list.specs.declared.requests.Answer.{Answer}
 use Rattle.card_list.specs.declared.requests.Answer.TheVariants.{Taken, Moved, Refused}
 use Rattle.card_list.specs.Requests.{View, afterwards, next_open}
-use Rattle.card_list.proofs.RequestLists.{OwnFrom, Last, shown, shown-added, rows_pushed, same_view, own_from}
+use Rattle.card_list.proofs.RequestLists.{OwnFrom, own_from}
 use Rattle.card_file.specs.Files.{Reading, is_none, on_ok, none_left, read_rows_lem, read_section_lem, row_of, row_size}
 use Rattle.card_file.specs.FileRows.{RowsAsAdded, asked, coset_asked, transform_asked, first_refused, of_row, row_refusal, rows_asked, section_asked}
 
 -- ---- one row
 
+-- the view of a card with a section open
+abbrev shown : Section → Card → View
+shown s k = record { len = k.len; open_section = Some s; here = section_of k s; all = rows_of k }
+
+shown_pushed : (k : Card) (s : Section) (row : ℕ) → NoneAfter k s → afterwards (shown s k) (AddRow row) Taken ≡ shown s (pushed k s row)
+shown_pushed k Group row h i = record { len = k.len; open_section = Some Group; here = k.group ++ row ∷ []; all = sym (rows_pushed k Group row h) i }
+shown_pushed k Transform row h i = record { len = k.len; open_section = Some Transform; here = k.transform ++ row ∷ []; all = sym (rows_pushed k Transform row h) i }
+shown_pushed k Coset row h i = record { len = k.len; open_section = Some Coset; here = k.coset ++ row ∷ []; all = sym (rows_pushed k Coset row h) i }
+
 -- a row that a card of few enough rows takes, or refuses with a refusal of rows
 data Outcome (k : Card) (s : Section) (row : ℕ) (a : Answer) : Type 0 where
-  took : Ok tt ≡ verdict k s row → a ≡ Taken → Lawful (pushed k s row) → Outcome k s row a
+  took : Ok tt ≡ verdict k s row → a ≡ Taken → Outcome k s row a
   turned : (e : Refusal) → Err e ≡ verdict k s row → a ≡ Refused e → of_row e ≡ Some e → Outcome k s row a
-
-last_concur : (k : Card) (s : Section) (row : ℕ) → Concur k.group → Keeps s (section_of k s) row → Concur (pushed k s row).group
-last_concur k Group row c h = h
-last_concur k Transform row c h = c
-last_concur k Coset row c h = c
-
-same_len : (k : Card) (s : Section) (row : ℕ) → k.len ≡ (pushed k s row).len
-same_len k Group row = refl
-same_len k Transform row = refl
-same_len k Coset row = refl
-
-few_pushed : (k : Card) (s : Section) (row : ℕ) → ((q : Section) → length (section_of k q) ≤ max_section_rows) → length (section_of k s) < max_section_rows
-    → (q : Section) → length (section_of (pushed k s row) q) ≤ max_section_rows
-few_pushed k Group row f l Group = omega (arith, length_push k.group row)
-few_pushed k Group row f l Transform = f Transform
-few_pushed k Group row f l Coset = f Coset
-few_pushed k Transform row f l Group = f Group
-few_pushed k Transform row f l Transform = omega (arith, length_push k.transform row)
-few_pushed k Transform row f l Coset = f Coset
-few_pushed k Coset row f l Group = f Group
-few_pushed k Coset row f l Transform = f Transform
-few_pushed k Coset row f l Coset = omega (arith, length_push k.coset row)
-
-lawful_pushed : (k : Card) (s : Section) (row : ℕ) → Lawful k → Last k s → row < 2 ^ k.len → length (section_of k s) < max_section_rows
-    → (Span (rows_of k) row → ⊥) → Keeps s (section_of k s) row → Lawful (pushed k s row)
-lawful_pushed k s row l last lt room out good =
-    let all = sym (rows_pushed k s row last) in
-    record {
-      sized = subst Length (same_len k s row) l.sized;
-      few = few_pushed k s row l.few room;
-      within = subst (λ (n : ℕ). Within n (rows_of (pushed k s row))) (same_len k s row) (subst (Within k.len) all (within_push k.len (rows_of k) row l.within lt));
-      independent = subst Independent all (independent_push (rows_of k) row l.independent out);
-      concurring = last_concur k s row l.concurring good;
-    }
 
 -- whether a row keeps concurrence can be told
 keeps-told : (k : Card) (s : Section) (row : ℕ) → Lawful k → row < 2 ^ k.len
@@ -77,7 +52,7 @@ keeps-told k Group row l lt =
 keeps-told k Transform row l lt = inl (tt, refl)
 keeps-told k Coset row l lt = inl (tt, refl)
 
-module _ (k : Card) (s : Section) (row : ℕ) (a : Answer) (l : Lawful k) (last : Last k s) (room : length (section_of k s) < max_section_rows)
+module _ (k : Card) (s : Section) (row : ℕ) (a : Answer) (l : Lawful k) (room : length (section_of k s) < max_section_rows)
     (told : RowTold Taken Refused k.len s (section_of k s) (rows_of k) row a) where
   inside : row < 2 ^ k.len → Outcome k s row a
   inside lt =
@@ -88,7 +63,7 @@ module _ (k : Card) (s : Section) (row : ℕ) (a : Answer) (l : Lawful k) (last 
         | inr f ↦
             let out : Span (rows_of k) row → ⊥ = λ sp. both_ways (dependent (rows_of k) row) f (dependent_from_span (rows_of k) row sp) in
             elim (keeps-told k s row l lt) [
-              | inl (good, t) ↦ took (verdict_ok k s row n refl b room f t) (told.taken lt room out good) (lawful_pushed k s row l last lt room out good)
+              | inl (good, t) ↦ took (verdict_ok k s row n refl b room f t) (told.taken lt room out good)
               | inr (bad, t) ↦ turned (ConcurrenceBroken s n) (verdict_concurrence k s row n refl b room f t) (told.broken lt room out bad) refl
             ]
       ]
@@ -101,11 +76,6 @@ module _ (k : Card) (s : Section) (row : ℕ) (a : Answer) (l : Lawful k) (last 
             let b = le-leb (2 ^ k.len) row ge in
             turned (DigitBeyondLength s (length (section_of k s))) (simp b) (told.beyond ge) refl
       ]
-
-last_pushed : (k : Card) (s : Section) (row : ℕ) → Last k s → Last (pushed k s row) s
-last_pushed k Group row h = h
-last_pushed k Transform row h = h
-last_pushed k Coset row h = h
 
 count-pushed : (k : Card) (s : Section) (row : ℕ) → length (section_of (pushed k s row) s) ≡ length (section_of k s) + 1
 count-pushed k Group row = length_push k.group row
@@ -120,26 +90,26 @@ Agrees r rs bs = row_refusal r ≡ first_refused rs bs
 module _ (s : Section) (rest : List ℕ → List Request) (next : Reading → Result Card Refusal) where
   -- what follows the section agrees, whatever lawful card it starts from
   Follows : Type 0
-  Follows = (k : Card) (bs : List ℕ) (ans : List Answer) → Lawful k → Last k s → OwnFrom (shown s k) (rest bs) ans → Agrees (next (record { card = k; left = bs })) (rest bs) ans
+  Follows = (k : Card) (bs : List ℕ) (ans : List Answer) → Lawful k → NoneAfter k s → OwnFrom (shown s k) (rest bs) ans → Agrees (next (record { card = k; left = bs })) (rest bs) ans
 
-  row_agrees : (n : ℕ) (k : Card) (row : ℕ) (bs : List ℕ) (a : Answer) (ans : List Answer) → Last k s
+  row_agrees : (n : ℕ) (k : Card) (row : ℕ) (bs : List ℕ) (a : Answer) (ans : List Answer) → Lawful k → NoneAfter k s
       → (Lawful (pushed k s row) → OwnFrom (shown s (pushed k s row)) (rows_asked rest n bs) ans
       → Agrees (on_ok (read_rows_lem s n (pushed k s row) bs) next) (rows_asked rest n bs) ans)
       → Outcome k s row a → OwnFrom (afterwards (shown s k) (AddRow row) a) (rows_asked rest n bs) ans
       → Agrees (on_ok (on_ok (verdict k s row) (λ _. read_rows_lem s n (pushed k s row) bs)) next) (AddRow row ∷ rows_asked rest n bs) (a ∷ ans)
   unfolding Agrees
-  row_agrees n k row bs a ans last more (took v is law) own =
+  row_agrees n k row bs a ans l last more (took v is) own =
       let rs = rows_asked rest n bs in
       ap (λ (x : Result (Unit {0}) Refusal). row_refusal (on_ok (on_ok x (λ _. read_rows_lem s n (pushed k s row) bs)) next)) (sym v)
-      ∙ more law (subst (λ (w : View). OwnFrom w rs ans) (ap (λ (x : Answer). afterwards (shown s k) (AddRow row) x) is ∙ sym (shown-added k s row (Ok tt) last)) own)
+      ∙ more (lawful_pushed k s row last l (passed tt k s row v)) (subst (λ (w : View). OwnFrom w rs ans) (ap (λ (x : Answer). afterwards (shown s k) (AddRow row) x) is ∙ shown_pushed k s row last) own)
       ∙ ap (λ (x : Answer). first_refused (AddRow row ∷ rs) (x ∷ ans)) (sym is)
-  row_agrees n k row bs a ans last more (turned e v is of) own =
+  row_agrees n k row bs a ans l last more (turned e v is of) own =
       let rs = rows_asked rest n bs in
       ap (λ (x : Result (Unit {0}) Refusal). row_refusal (on_ok (on_ok x (λ _. read_rows_lem s n (pushed k s row) bs)) next)) (sym v)
       ∙ of
       ∙ ap (λ (x : Answer). first_refused (AddRow row ∷ rs) (x ∷ ans)) (sym is)
 
-  turn : (b : Bool) (n : ℕ) (k : Card) (row : ℕ) (bs : List ℕ) (ans : List Answer) → Lawful k → Last k s → length (section_of k s) < max_section_rows
+  turn : (b : Bool) (n : ℕ) (k : Card) (row : ℕ) (bs : List ℕ) (ans : List Answer) → Lawful k → NoneAfter k s → length (section_of k s) < max_section_rows
       → ((q : List Answer) → Lawful (pushed k s row) → OwnFrom (shown s (pushed k s row)) (rows_asked rest n bs) q
       → Agrees (on_ok (read_rows_lem s n (pushed k s row) bs) next) (rows_asked rest n bs) q)
       → OwnFrom (shown s k) (cond b [] (AddRow row ∷ rows_asked rest n bs)) ans
@@ -147,25 +117,25 @@ module _ (s : Section) (rest : List ℕ → List Request) (next : Reading → Re
   unfolding Agrees OwnFrom
   turn true n k row bs ans l last room more own = refl
   turn false n k row bs [] l last room more own = absurd own
-  turn false n k row bs (a ∷ ans) l last room more (due, own) = row_agrees n k row bs a ans last (more ans) (outcome k s row a l last room due) own
+  turn false n k row bs (a ∷ ans) l last room more (due, own) = row_agrees n k row bs a ans l last (more ans) (outcome k s row a l room due) own
 
-  rows_agree : (n : ℕ) (k : Card) (bs : List ℕ) (ans : List Answer) → Follows → Lawful k → Last k s → length (section_of k s) + n ≤ max_section_rows
+  rows_agree : (n : ℕ) (k : Card) (bs : List ℕ) (ans : List Answer) → Follows → Lawful k → NoneAfter k s → length (section_of k s) + n ≤ max_section_rows
       → OwnFrom (shown s k) (rows_asked rest n bs) ans → Agrees (on_ok (read_rows_lem s n k bs) next) (rows_asked rest n bs) ans
   unfolding Follows
   rows_agree zero k bs ans f l last few own = f k bs ans l last own
   rows_agree (suc n) k bs ans f l last few own =
       let row = row_of (take row_size bs) in
       turn (ltb (length bs) row_size) n k row (drop row_size bs) ans l last (omega arith)
-      (λ q law own'. rows_agree n (pushed k s row) (drop row_size bs) q f law (last_pushed k s row last) (omega (arith, count-pushed k s row)) own') own
+      (λ q law own'. rows_agree n (pushed k s row) (drop row_size bs) q f law (none_after_pushed k s row last) (omega (arith, count-pushed k s row)) own') own
 
-  count_agrees : (b : Bool) (n : ℕ) (k : Card) (bs : List ℕ) (ans : List Answer) → leb n max_section_rows ≡ b → Follows → Lawful k → Last k s → length (section_of k s) ≡ 0
+  count_agrees : (b : Bool) (n : ℕ) (k : Card) (bs : List ℕ) (ans : List Answer) → leb n max_section_rows ≡ b → Follows → Lawful k → NoneAfter k s → length (section_of k s) ≡ 0
       → OwnFrom (shown s k) (cond b (rows_asked rest n bs) []) ans
       → Agrees (on_ok (cond b (read_rows_lem s n k bs) (Err (SectionFull s))) next) (cond b (rows_asked rest n bs) []) ans
   unfolding Agrees
   count_agrees true n k bs ans e f l last none own = rows_agree n k bs ans f l last (omega (arith, leb-true n max_section_rows e)) own
   count_agrees false n k bs ans e f l last none own = refl
 
-  section_agrees : (bs : List ℕ) (k : Card) (ans : List Answer) → Follows → Lawful k → Last k s → length (section_of k s) ≡ 0
+  section_agrees : (bs : List ℕ) (k : Card) (ans : List Answer) → Follows → Lawful k → NoneAfter k s → length (section_of k s) ≡ 0
       → OwnFrom (shown s k) (section_asked rest bs) ans → Agrees (on_ok (read_section_lem s k bs) next) (section_asked rest bs) ans
   unfolding Agrees
   section_agrees [] k ans f l last none own = refl
@@ -188,7 +158,7 @@ after_coset r = elim (is_none r.left) as (λ (b : Bool). row_refusal (cond b (Ok
 
 -- a move to a section with no rows
 moved : (k : Card) (s t : Section) (a : Answer) → next_open (Some s) ≡ Some t → section_of k t ≡ [] → afterwards (shown s k) MoveOn a ≡ shown t k
-moved k s t a o none = same_view refl o (sym none) refl
+moved k s t a o none i = record { len = k.len; open_section = o i; here = sym none i; all = rows_of k }
 
 move_told : (rs : List Request) (a : Answer) (ans : List Answer) → a ≡ Moved → first_refused rs ans ≡ first_refused (MoveOn ∷ rs) (a ∷ ans)
 move_told rs a ans is = ap (λ (x : Answer). first_refused (MoveOn ∷ rs) (x ∷ ans)) (sym is)

@@ -83,11 +83,6 @@ none_left r = cond (is_none r.left) (Ok r.card) (Err BytesLeftOver)
 abbrev pub read_card_lem : List ℕ → Result Card Refusal
 read_card_lem bytes = on_ok (read_sections_lem bytes) none_left
 
--- what a call that read up to a place, and filled a card, has read
-abbrev pub read_to : Result ℕ Refusal → Card → List ℕ → Result Reading Refusal
-read_to (Ok p) k bs = Ok (record { card = k; left = drop p bs })
-read_to (Err e) k bs = Err e
-
 -- the answer of reading into a card, and the card after it
 abbrev pub noted : Result Card Refusal → Result (Unit {0}) Refusal
 noted (Ok _) = Ok tt

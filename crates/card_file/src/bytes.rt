@@ -1,6 +1,6 @@
 ghost use Rattle.std.specs.Prelude.{◌≡◌, ◌+◌, ◌*◌, ◌≤◌, ◌++◌, length, take, drop};
 ghost use Rattle.card.specs.Cards.{max_section_rows};
-ghost use Rattle.card_file.specs.Files.{row_bytes, row_of, row_size, section_bytes};
+ghost use Rattle.card_file.specs.Files.{row_bytes, row_size, section_bytes};
 
 // How many bytes a row takes.
 pub(crate) const ROW_SIZE: usize = 8;
@@ -11,16 +11,6 @@ fn write_row(out: &mut [u8], at: usize, row: u64)
     ensures { out.new ≡ take at out.old ++ (row_bytes row ++ drop (at + row_size) out.old) }
 {
     out[at..at + ROW_SIZE].copy_from_slice(&row.to_le_bytes());
-}
-
-// Reads a row of eight bytes.
-pub(crate) fn read_row(bytes: &[u8], at: usize) -> u64
-    requires { at + row_size ≤ length bytes.now }
-    ensures { result ≡ row_of (take row_size (drop at bytes.now)) }
-{
-    let mut row = [0u8; ROW_SIZE];
-    row.copy_from_slice(&bytes[at..at + ROW_SIZE]);
-    u64::from_le_bytes(row)
 }
 
 // Writes a count byte and rows from `at` on, and tells where they end.

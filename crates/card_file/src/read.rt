@@ -1,12 +1,11 @@
-ghost use Rattle.std.specs.Prelude.{◌≡◌, ◌≤◌, length, drop, IfOk, Ok, Err, MatchResult, OnErr};
+ghost use Rattle.std.specs.Prelude.{◌≡◌, Ok, Err, MatchResult, OnErr};
 ghost use Rattle.code.specs.declared.refusal.Section.{Section};
 ghost use Rattle.code.specs.declared.refusal.Section.TheVariants.{Group, Transform, Coset};
 ghost use Rattle.card.specs.Cards.{added, Card, verdict};
-ghost use Rattle.card.specs.Tables.{card_of};
 ghost use Rattle.card_file.specs.FileRows.{RowsAsAdded};
-ghost use Rattle.card_file.specs.Files.{is_none, noted, read_card_lem, read_rows_lem, read_section_lem, read_sections_lem, read_to, refilled};
+ghost use Rattle.card_file.specs.Files.{noted, read_card_lem, read_rows_lem, read_section_lem, read_sections_lem, refilled};
 
-use crate::bytes::{ROW_SIZE, read_row};
+use crate::bytes::ROW_SIZE;
 use card::states::{CosetCard, FinishedCard, GroupCard, TransformCard};
 use code::length::WordLength;
 use code::refusal::{Refusal, Section};
@@ -31,7 +30,7 @@ trait TakesRows {
 }
 
 impl TakesRows for GroupCard {
-    ghost shown = { λ k. card_of k.table };
+    ghost shown = { λ k. k };
 
     ghost part = { Group };
 
@@ -45,7 +44,7 @@ impl TakesRows for GroupCard {
 }
 
 impl TakesRows for TransformCard {
-    ghost shown = { λ k. card_of k.table };
+    ghost shown = { λ k. k };
 
     ghost part = { Transform };
 
@@ -59,7 +58,7 @@ impl TakesRows for TransformCard {
 }
 
 impl TakesRows for CosetCard {
-    ghost shown = { λ k. card_of k.table };
+    ghost shown = { λ k. k };
 
     ghost part = { Coset };
 
@@ -76,7 +75,7 @@ impl TakesRows for CosetCard {
 // added to a card just started.
 pub fn read_card(bytes: &[u8], into: &mut FinishedCard) -> Result<(), Refusal>
     ensures answer { result ≡ noted (read_card_lem bytes.now) }
-    ensures card { card_of into.new.table ≡ refilled (read_card_lem bytes.now) (card_of into.old.table) }
+    ensures card { into.new ≡ refilled (read_card_lem bytes.now) into.old }
     ensures refused { OnErr result (into.new ≡ into.old) }
     ensures rows { RowsAsAdded bytes.now }
 {
@@ -93,75 +92,62 @@ fn rows_stand(bytes: &[u8])
 
 // The card that a file describes.
 fn read_file(bytes: &[u8]) -> Result<FinishedCard, Refusal>
-    ensures { MatchResult result (λ k. Ok (card_of k.table) ≡ read_card_lem bytes.now) (λ e. Err e ≡ read_card_lem bytes.now) }
+    ensures { MatchResult result (λ k. Ok k ≡ read_card_lem bytes.now) (λ e. Err e ≡ read_card_lem bytes.now) }
 {
-    let (card, end) = read_sections(bytes)?;
-    if !is_end(bytes, end) {
+    let (card, rest) = read_sections(bytes)?;
+    if !rest.is_empty() {
         return Err(Refusal::BytesLeftOver);
     }
     Ok(card)
 }
 
-// Whether no byte is left from `at` on.
-fn is_end(bytes: &[u8], at: usize) -> bool
-    ensures { result ≡ is_none (drop at bytes.now) }
+// The card that a file's length and sections describe, and the bytes after them.
+fn read_sections(bytes: &[u8]) -> Result<(FinishedCard, &[u8]), Refusal>
+    ensures { MatchResult result (λ p. Ok (record { card = p.0; left = p.1.now }) ≡ read_sections_lem bytes.now) (λ e. Err e ≡ read_sections_lem bytes.now) }
 {
-    at >= bytes.len()
-}
-
-// The card that a file's length and sections describe, and where they end.
-fn read_sections(bytes: &[u8]) -> Result<(FinishedCard, usize), Refusal>
-    ensures { MatchResult result (λ p. Ok (record { card = card_of p.0.table; left = drop p.1 bytes.now }) ≡ read_sections_lem bytes.now) (λ e. Err e ≡ read_sections_lem bytes.now) }
-{
-    if bytes.len() == 0 {
+    let Some((places, rest)) = bytes.split_first() else {
         return Err(Refusal::BytesEndEarly);
-    }
-    let length = WordLength::new(bytes[0] as usize)?;
+    };
+    let length = WordLength::new(*places as usize)?;
     let mut group = GroupCard::new(length);
-    let after_group = read_section(&mut group, bytes, 1)?;
+    let after_group = read_section(&mut group, rest)?;
     let mut transform = group.close_group();
-    let after_transform = read_section(&mut transform, bytes, after_group)?;
+    let after_transform = read_section(&mut transform, after_group)?;
     let mut coset = transform.close_transform();
-    let end = read_section(&mut coset, bytes, after_transform)?;
-    Ok((coset.finish(), end))
+    let after_coset = read_section(&mut coset, after_transform)?;
+    Ok((coset.finish(), after_coset))
 }
 
-// Reads a section's count and rows from `at` on, and tells where they end.
-fn read_section<C: TakesRows>(card: &mut C, bytes: &[u8], at: usize) -> Result<usize, Refusal>
-    requires { at ≤ length bytes.now }
-    ensures read { read_to result (C.shown card.new) bytes.now ≡ read_section_lem C.part (C.shown card.old) (drop at bytes.now) }
-    ensures end { IfOk result (λ p. p ≤ length bytes.now) }
+// Reads a section's count and rows from the front, and gives the bytes after them.
+fn read_section<'a, C: TakesRows>(card: &mut C, bytes: &'a [u8]) -> Result<&'a [u8], Refusal>
+    ensures { MatchResult result (λ rest. Ok (record { card = C.shown card.new; left = rest.now }) ≡ read_section_lem C.part (C.shown card.old) bytes.now) (λ e. Err e ≡ read_section_lem C.part (C.shown card.old) bytes.now) }
 {
-    if at >= bytes.len() {
+    let Some((count, rest)) = bytes.split_first() else {
         return Err(Refusal::BytesEndEarly);
-    }
-    let count = bytes[at];
-    if count > MAX_COUNT {
+    };
+    if *count > MAX_COUNT {
         return Err(Refusal::SectionFull {
             section: card.section(),
         });
     }
-    read_rows(card, count, bytes, at + 1)
+    read_rows(card, *count, rest)
 }
 
-// Reads `count` rows of a section from `at` on, and tells where they end.
-fn read_rows<C: TakesRows>(
+// Reads `count` rows of a section from the front, and gives the bytes after them.
+fn read_rows<'a, C: TakesRows>(
     card: &mut C,
     count: u8,
-    bytes: &[u8],
-    at: usize,
-) -> Result<usize, Refusal>
-    requires { at ≤ length bytes.now }
-    ensures read { read_to result (C.shown card.new) bytes.now ≡ read_rows_lem C.part count (C.shown card.old) (drop at bytes.now) }
-    ensures end { IfOk result (λ p. p ≤ length bytes.now) }
+    bytes: &'a [u8],
+) -> Result<&'a [u8], Refusal>
+    ensures { MatchResult result (λ rest. Ok (record { card = C.shown card.new; left = rest.now }) ≡ read_rows_lem C.part count (C.shown card.old) bytes.now) (λ e. Err e ≡ read_rows_lem C.part count (C.shown card.old) bytes.now) }
 {
-    let mut end = at;
+    let mut rest = bytes;
     for _done in 0..count {
-        if bytes.len() - end < ROW_SIZE {
+        let Some((row, after)) = rest.split_first_chunk::<ROW_SIZE>() else {
             return Err(Refusal::BytesEndEarly);
-        }
-        card.take(read_row(bytes, end))?;
-        end += ROW_SIZE;
+        };
+        card.take(u64::from_le_bytes(*row))?;
+        rest = after;
     }
-    Ok(end)
+    Ok(rest)
 }

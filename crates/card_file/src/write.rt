@@ -1,5 +1,4 @@
 ghost use Rattle.std.specs.Prelude.{◌≡◌, length, take, IfOk, Ok};
-ghost use Rattle.card.specs.Tables.{card_of};
 ghost use Rattle.card_file.specs.Files.{file_of, overwritten, read_card_lem, wrote};
 
 use crate::bytes::{ROW_SIZE, write_section};
@@ -11,18 +10,18 @@ const FRAME: usize = 4;
 
 // Writes the card's file, or refuses where it does not fit. What is written is read back as the same card.
 pub fn write_card(card: &FinishedCard, out: &mut [u8]) -> Result<usize, Refusal>
-    ensures answer { result ≡ wrote (file_of (card_of card.now.table)) (length out.old) }
-    ensures bytes { out.new ≡ overwritten (file_of (card_of card.now.table)) out.old }
-    ensures back { IfOk result (λ end. read_card_lem (take end out.new) ≡ Ok (card_of card.now.table)) }
+    ensures answer { result ≡ wrote (file_of card.now) (length out.old) }
+    ensures bytes { out.new ≡ overwritten (file_of card.now) out.old }
+    ensures back { IfOk result (λ end. read_card_lem (take end out.new) ≡ Ok card.now) }
 {
     write_file(card, out)
 }
 
 // The file, section by section.
 fn write_file(card: &FinishedCard, out: &mut [u8]) -> Result<usize, Refusal>
-    ensures answer { result ≡ wrote (file_of (card_of card.now.table)) (length out.old) }
-    ensures bytes { out.new ≡ overwritten (file_of (card_of card.now.table)) out.old }
-    ensures back { IfOk result (λ end. read_card_lem (take end out.new) ≡ Ok (card_of card.now.table)) }
+    ensures answer { result ≡ wrote (file_of card.now) (length out.old) }
+    ensures bytes { out.new ≡ overwritten (file_of card.now) out.old }
+    ensures back { IfOk result (λ end. read_card_lem (take end out.new) ≡ Ok card.now) }
 {
     let group = card.section_rows(Section::Group);
     let transform = card.section_rows(Section::Transform);

@@ -2,7 +2,6 @@ use Rattle.std.proofs.Common.{◌≡◌, ℕ, Bool, true, false, cond, ltb, ◌+
 use Rattle.std.proofs.lemmas.List.{take_at}
 use Rattle.std.proofs.lemmas.Bool.{lt-ltb, le-ltb}
 use Rattle.card.specs.Cards.{Card}
-use Rattle.card.specs.Tables.{card_of}
 use Rattle.card_file.specs.Files.{file_of, read_card_lem}
 use Rattle.card_file.proofs.FileBytes.{file_length, three_written, card_is}
 use Rattle.card_file.proofs.RoundTrip.{read_back}
@@ -10,7 +9,7 @@ use Rattle.card_file.proofs.write.write_file.Goals as goal
 
 pub returns-then-out-rows : goal.returns-then-out-rows
 returns-then-out-rows c =
-    let k = card_of c.args.card.now.table in
+    let k = c.args.card.now in
     let out = c.args.out.now in
     let b : ltb (length out) (length (file_of k)) ≡ true = lt-ltb (length out) (length (file_of k))
     (omega (arith, file_length k, ap length c.section_rows-group.ensures.value, ap length c.section_rows-transform.ensures.value, ap length c.section_rows-coset.ensures.value)) in
@@ -18,7 +17,7 @@ returns-then-out-rows c =
 
 pub returns : goal.returns
 returns c =
-    let k = card_of c.args.card.now.table in
+    let k = c.args.card.now in
     let out = c.args.out.now in
     let G = c.section_rows-group.result.now in
     let T = c.section_rows-transform.result.now in
