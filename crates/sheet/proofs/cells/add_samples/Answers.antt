@@ -19,4 +19,4 @@ grown-requires g c =
 
 pub loop-i-preserved : goal.loop-i-preserved
 loop-i-preserved g c =
-    added_more _ _ _ _ _ _ _ _ _ _ _ (omega arith) c.loop-i-test.true c.index-cells-i.is c.grown.ensures c.loop-i.invariant
+    added_more _ _ _ _ _ _ _ _ (omega arith) c.loop-i-test.true c.index-cells-i.is c.grown.ensures c.loop-i.invariant

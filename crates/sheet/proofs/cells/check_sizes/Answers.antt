@@ -15,8 +15,8 @@ returns-then-not-takes g c =
       on = on;
       before = c.loop-i.invariant;
       here = λ x d.
-          subst (λ y. Overgrown m.weight m.size m.MAIN_UNIT m.SECOND_UNIT (get_or ss i x) y) (get_or_read xs i _ (omega arith) c.index-cells-i.is d)
-          (subst (λ y. Overgrown m.weight m.size m.MAIN_UNIT m.SECOND_UNIT y c.index-cells-i.result) (get_or_default ss i _ x on) (c.takes.ensures.no c.if-not-takes.true));
+          subst (λ y. Overgrown m (get_or ss i x) y) (get_or_read xs i _ (omega arith) c.index-cells-i.is d)
+          (subst (λ y. Overgrown m y c.index-cells-i.result) (get_or_default ss i _ x on) (c.takes.ensures.no c.if-not-takes.true));
       names = refl;
     }
 
@@ -27,8 +27,8 @@ loop-i-preserved g c =
     let ss = c.args.samples.now in
     let xs = c.args.cells.now in
     let on = c.loop-i-test.true in
-    λ k x d h. below_more (λ j. Fits m.weight m.size m.MAIN_UNIT m.SECOND_UNIT (get_or ss j x) (get_or xs j d)) i
+    λ k x d h. below_more (λ j. Fits m (get_or ss j x) (get_or xs j d)) i
     (λ j hj. c.loop-i.invariant j x d hj)
-    (subst (λ y. Fits m.weight m.size m.MAIN_UNIT m.SECOND_UNIT (get_or ss i x) y) (get_or_read xs i _ (omega arith) c.index-cells-i.is d)
-    (subst (λ y. Fits m.weight m.size m.MAIN_UNIT m.SECOND_UNIT y c.index-cells-i.result) (get_or_default ss i _ x on) (c.takes.ensures.yes c.if-not-takes.false)))
+    (subst (λ y. Fits m (get_or ss i x) y) (get_or_read xs i _ (omega arith) c.index-cells-i.is d)
+    (subst (λ y. Fits m y c.index-cells-i.result) (get_or_default ss i _ x on) (c.takes.ensures.yes c.if-not-takes.false)))
     k h

@@ -6,4 +6,4 @@ use Rattle.sheet.proofs.cells.check_sizes.Given as goal
 abbrev pub invariant-loop-i : goal.invariant-loop-i
 invariant-loop-i g l =
     let m = g.R.Reading in
-    (k : ℕ) (x : Sample) (d : _) → k < l.i → Fits m.weight m.size m.MAIN_UNIT m.SECOND_UNIT (get_or l.samples k x) (get_or l.cells k d)
+    (k : ℕ) (x : Sample) (d : _) → k < l.i → Fits m (get_or l.samples k x) (get_or l.cells k d)
