@@ -63,9 +63,10 @@ fn check_sizes<R: Reading>(cells: &[R], samples: &[Sample]) -> Result<(), Refusa
         (λ _. (k : ℕ) (x : Sample) (d : R) → k < length samples.now → Fits R.Reading (slice_index_or samples.now k x) (slice_index_or cells.now k d))
         (FirstOvergrown R.Reading samples.now cells.now) }
 {
-    for (i, sample) in samples.iter().enumerate() {
-        if !takes(cells[i], sample, i) {
-            return Err(Refusal::SizeTooLarge { place: i });
+    // `cells.iter().zip(samples).enumerate()` leaves the refusal unproved: no lemma of std says which pair such a loop is at.
+    for (place, sample) in samples.iter().enumerate() {
+        if !takes(cells[place], sample, place) {
+            return Err(Refusal::SizeTooLarge { place });
         }
     }
     Ok(())
@@ -94,8 +95,8 @@ fn add_samples<R: Reading>(cells: &mut [R], samples: &[Sample])
     requires fits { (k : ℕ) (x : Sample) (d : R) → k < length samples.now → Fits R.Reading (slice_index_or samples.now k x) (slice_index_or cells.old k d) }
     ensures { Added R.Reading samples.now (length samples.now) cells.old cells.new }
 {
-    for (i, sample) in samples.iter().enumerate() {
-        cells[i] = grown(cells[i], sample, i);
+    for (place, cell) in cells.iter_mut().enumerate() {
+        *cell = grown(*cell, &samples[place], place);
     }
 }
 

@@ -72,6 +72,7 @@ impl<'a, R: Reading> Sheet<'a, R> {
         ensures kept { Kept self.old self.new }
         ensures rest { drop (length requests.now) answers.new ≡ drop (length requests.now) answers.old }
     {
+        // After `answers.iter_mut().zip(requests)` a proof knows no answer.
         for (i, request) in requests.iter().enumerate() {
             answers[i] = self.serve_by(request, &finder_of, work);
         }
