@@ -1,15 +1,20 @@
 // The two finders of a card.
-ghost use Rattle.std.specs.Prelude.{◌≡◌};
+ghost use Rattle.std.specs.Prelude.{◌≡◌, ◌≤◌, length, MatchResult};
+ghost use Rattle.card.specs.Cards.{Card};
 ghost use Rattle.card.specs.Tables.{card_of};
+ghost use Rattle.strip.specs.Strips.{CardRun, Short};
 ghost use Rattle.strip.specs.Finders.{FindersOf, finder_of};
 
 use crate::Method;
 use card::states::FinishedCard;
+use code::refusal::Refusal;
 use card_finder::{group_finder, plain_finder};
 use coset_layer::CosetLayer;
 use finder::either::Either;
 use finder::plain::PlainFinder;
 use group_finder::GroupFinder;
+use reading::Reading;
+use sheet::run::{Answer, Request, run_over_by};
 
 // A finder of a card: the plain finder or the group finder, under the card's coset layers.
 pub(crate) type CardFinder =
@@ -40,5 +45,21 @@ impl CardFinders {
             Method::Plain => &self.plain,
             Method::Group => &self.group,
         }
+    }
+
+    // Lays out a sheet over the cells and makes the requests of it, each search by the finder of its method.
+    pub(crate) fn run<'f, R: Reading>(
+        &'f self,
+        cells: &mut [R],
+        requests: &'f [Request<'f, Method>],
+        work: &mut [R],
+        answers: &mut [Answer<R>],
+    ) -> Result<u32, Refusal>
+        ensures law { (k : Card) → FindersOf k self.now → MatchResult result
+            (λ count. CardRun R.Reading k requests.now count cells.old cells.new work.old work.new answers.old answers.new)
+            (Short (length requests.now) (length answers.old)) }
+        ensures refused { MatchResult result (λ _. length requests.now ≤ length answers.old) (λ _. (cells.new ≡ cells.old) × (work.new ≡ work.old) × (answers.new ≡ answers.old)) }
+    {
+        run_over_by(cells, requests, |method| self.by(*method), work, answers)
     }
 }

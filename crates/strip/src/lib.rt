@@ -17,7 +17,7 @@ use card_list::requests::{Answer as CardAnswer, Request as CardRequest, build_ca
 use code::length::WordLength;
 use code::refusal::Refusal;
 use reading::Reading;
-use sheet::run::{Answer, Request, run_over_by};
+use sheet::run::{Answer, Request};
 
 // Which of a card's finders searches: the plain finder or the group finder, each under the card's coset layers.
 #[derive(Clone, Copy)]
@@ -40,8 +40,24 @@ pub fn run_card<R: Reading>(
         (Short (length requests.now) (length answers.old)) }
     ensures refused { MatchResult result (λ _. length requests.now ≤ length answers.old) (λ _. (cells.new ≡ cells.old) × (work.new ≡ work.old) × (answers.new ≡ answers.old)) }
 {
+    run_with(card, cells, requests, work, answers)
+}
+
+// The requests have one lifetime, which the look-up of their finders names.
+fn run_with<'q, R: Reading>(
+    card: &FinishedCard,
+    cells: &mut [R],
+    requests: &'q [Request<'q, Method>],
+    work: &mut [R],
+    answers: &mut [Answer<R>],
+) -> Result<u32, Refusal>
+    ensures law { MatchResult result
+        (λ count. CardRun R.Reading (card_of card.now.table) requests.now count cells.old cells.new work.old work.new answers.old answers.new)
+        (Short (length requests.now) (length answers.old)) }
+    ensures refused { MatchResult result (λ _. length requests.now ≤ length answers.old) (λ _. (cells.new ≡ cells.old) × (work.new ≡ work.old) × (answers.new ≡ answers.old)) }
+{
     let finders = CardFinders::new(card);
-    run_over_by(cells, requests, |method| finders.by(*method), work, answers)
+    finders.run(cells, requests, work, answers)
 }
 
 // Builds a card from a list of requests, writing an answer to each, and then does as `run_card` with that card.
@@ -85,7 +101,7 @@ fn build_and_run<R: Reading>(
         return Err(Refusal::OutputShort);
     }
     let card = build_card(len, rows, told)?;
-    run_card(&card, cells, requests, work, answers)
+    run_with(&card, cells, requests, work, answers)
 }
 
 // Reads a card from a file and then does as `run_card` with that card. A refused file gives its refusal, and nothing is done.
@@ -124,5 +140,5 @@ fn read_and_run<R: Reading>(
         return Err(Refusal::OutputShort);
     }
     read?;
-    run_card(&card, cells, requests, work, answers)
+    run_with(&card, cells, requests, work, answers)
 }
