@@ -13,6 +13,8 @@ use Rattle.code.proofs.Spans.{independent_distinct}
 use Rattle.card.specs.Cards.{rows_of}
 use Rattle.sample.specs.declared.Sample.{Sample}
 use Rattle.sample.proofs.Faults.{first_good}
+use Rattle.reading.specs.declared.Reading.{Ghosts}
+use Rattle.finder.specs.declared.Finder.{Ghosts as FinderGhosts}
 use Rattle.finder.specs.declared.found.Found.{Found}
 use Rattle.sheet.specs.declared.Sheet.{Sheet}
 use Rattle.sheet.specs.Cells.{covered}
@@ -51,38 +53,38 @@ module _ (rows : List ℕ) (n F m : ℕ) (within : (j : ℕ) → j < length rows
     | inr ne ↦ absurd (clash_ℤ (other_agreement j t.within ne) (subst (λ z. z ≤ℤ agrees rows totals j) own_agreement (t.greatest m low)))
   ]
 
-module _ {R : Type 0} (weight : R → ℤ) (size : R → ℕ) (main second : ℕ) where
+module _ {R : Type 0} (kind : Ghosts R) where
   -- the totals that stand after the one pass
-  pub once_totals : (n : ℕ) (h : List Call) (samples : List Sample) (c : ℕ) → (book_of main second n h).count ≡ 0 → length samples ≡ n → PlaysWord c samples →
-      (book_of main second n (h ++ Pass samples ∷ [])).totals ≡ negated_at (replicate n (pos (full_label * main))) c
+  pub once_totals : (n : ℕ) (h : List Call) (samples : List Sample) (c : ℕ) → (book_of kind.MAIN_UNIT kind.SECOND_UNIT n h).count ≡ 0 → length samples ≡ n → PlaysWord c samples →
+      (book_of kind.MAIN_UNIT kind.SECOND_UNIT n (h ++ Pass samples ∷ [])).totals ≡ negated_at (replicate n (pos (full_label * kind.MAIN_UNIT))) c
   once_totals n h samples c none long plays =
-      let b = book_of main second n h in
-      let q = quiet_book main second n h in
-      let new : Book = record { count = b.count + 1; totals = add_labels main second b.totals samples } in
+      let b = book_of kind.MAIN_UNIT kind.SECOND_UNIT n h in
+      let q = quiet_book kind.MAIN_UNIT kind.SECOND_UNIT n h in
+      let new : Book = record { count = b.count + 1; totals = add_labels kind.MAIN_UNIT kind.SECOND_UNIT b.totals samples } in
       let taken = check_samples_lem (length b.totals) b.count samples (long ∙ sym q.places) (omega arith) ∙ first_good samples (plays_good c samples plays) in
-      ap (λ x. x.totals) (book_push main second n h (Pass samples))
+      ap (λ x. x.totals) (book_push kind.MAIN_UNIT kind.SECOND_UNIT n h (Pass samples))
       ∙ ap (λ o. (unless_refused o new b).totals) taken
-      ∙ ap (λ ts. add_labels main second ts samples) (q.nothing none)
-      ∙ full_totals main second n samples c long plays
+      ∙ ap (λ ts. add_labels kind.MAIN_UNIT kind.SECOND_UNIT ts samples) (q.nothing none)
+      ∙ full_totals kind.MAIN_UNIT kind.SECOND_UNIT n samples c long plays
 
-  pub again : (t u : Sheet R) (span : ℕ) (rows : List ℕ) (need : ℕ) (work after : List R) (r : Result (Found R) Refusal) → 1 ≤ main →
-      SearchLaw weight size main second t u span rows need work after r → Again weight size main second t span rows need (length work) r
-  again t u span rows need work after r unit law card m h samples lawful low st none plays long cov sp rw' fits =
+  pub again : {F : Type 0} (t u : Sheet R) (by : FinderGhosts F) (finder : F) (work after : List R) (r : Result (Found R) Refusal) → 1 ≤ kind.MAIN_UNIT →
+      SearchLaw kind t u by finder work after r → Again kind t by finder (length work) r
+  again t u by finder work after r unit law card m h samples lawful low st none plays long cov sp rw' fits =
       let n = card.len in
-      let F = full_label * main in
+      let F = full_label * kind.MAIN_UNIT in
       let c = codeword (rows_of card) m in
       let rule = (law.book (h ++ Pass samples ∷ []) st).1 in
-      let ts = ap (λ k. (book_of main second k (h ++ Pass samples ∷ [])).totals) cov
-      ∙ once_totals n h samples c (subst (λ k. (book_of main second k h).count ≡ 0) cov none) long plays in
-      let places : length (book_at weight size main second (h ++ Pass samples ∷ []) t).totals ≡ span =
-      (quiet_book main second (covered (cells_of t)) (h ++ Pass samples ∷ [])).places ∙ cov ∙ sym sp in
+      let ts = ap (λ k. (book_of kind.MAIN_UNIT kind.SECOND_UNIT k (h ++ Pass samples ∷ [])).totals) cov
+      ∙ once_totals n h samples c (subst (λ k. (book_of kind.MAIN_UNIT kind.SECOND_UNIT k h).count ≡ 0) cov none) long plays in
+      let places : length (book_at kind (h ++ Pass samples ∷ []) t).totals ≡ by.span finder =
+      (quiet_book kind.MAIN_UNIT kind.SECOND_UNIT (covered (cells_of t)) (h ++ Pass samples ∷ [])).places ∙ cov ∙ sym sp in
       let a = rule.answered places fits in
       let f = a.0 in
-      let best = subst (λ x. Best x (negated_at (replicate n (pos F)) c) f.message) rw' (subst (λ x. Best rows x f.message) ts a.2) in
+      let best = subst (λ x. Best x (negated_at (replicate n (pos F)) c) f.message) rw' (subst (λ x. Best (by.rows finder) x f.message) ts a.2) in
       let is = only_best (rows_of card) n F m lawful.within lawful.independent (omega arith) low f.message best in (
         f,
         a.1,
         is,
         a.3 ∙ ap₂ (λ x y. agrees x y f.message) rw' ts ∙ ap (agrees (rows_of card) (negated_at (replicate n (pos F)) c)) is
-            ∙ own_agreement (rows_of card) n F m lawful.within lawful.independent (omega arith) low ∙ ap pos (sym (mul_assoc n full_label main)),
+            ∙ own_agreement (rows_of card) n F m lawful.within lawful.independent (omega arith) low ∙ ap pos (sym (mul_assoc n full_label kind.MAIN_UNIT)),
       )

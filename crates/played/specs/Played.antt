@@ -1,5 +1,5 @@
 -- A code word played at full level, and found again.
-use Rattle.std.specs.Prelude.{◌≡◌, ℕ, ◌*◌, ◌^◌, ◌<◌, ◌≤◌, true, false, cond, ◌⊎◌, List, [], ◌∷◌, ◌++◌, length, take, drop, ℤ, pos, Ok, Err, Result, ◌==◌, slice_index_or, Float}
+use Rattle.std.specs.Prelude.{◌≡◌, ℕ, ◌*◌, ◌^◌, ◌<◌, ◌≤◌, true, false, cond, ◌⊎◌, List, [], ◌∷◌, ◌++◌, length, take, drop, pos, Ok, Err, Result, ◌==◌, slice_index_or, Float}
 use Rattle.std.specs.Float.{fin}
 use Rattle.code.specs.Limits.{full_label}
 use Rattle.code.specs.Words.{digit, codeword}
@@ -8,6 +8,8 @@ use Rattle.code.specs.declared.refusal.Refusal.TheVariants.{OutputShort, Message
 use Rattle.card.specs.Cards.{Card, Lawful, rows_of}
 use Rattle.sample.specs.declared.Sample.{Sample}
 use Rattle.sample.specs.declared.Sample.TheVariants.{Bit, Level}
+use Rattle.reading.specs.declared.Reading.{Ghosts}
+use Rattle.finder.specs.declared.Finder.{Ghosts as FinderGhosts}
 use Rattle.finder.specs.declared.found.Found.{Found}
 use Rattle.sheet.specs.declared.Sheet.{Sheet}
 use Rattle.sheet.specs.Cells.{covered}
@@ -44,17 +46,16 @@ pub record Written (card : Card) (message levels : ℕ) (old new : List Sample) 
   pub rest : drop card.len new ≡ drop card.len old
 
 -- a search that found the message again, at the weight of full level at every one of n places
-abbrev pub FoundAgain : {R : Type 0} → (R → ℤ) → ℕ → ℕ → ℕ → Result (Found R) Refusal → Type 0
-FoundAgain weight main n message r = (f : Found _) × (r ≡ Ok f) × (f.message ≡ message) × (weight f.reading ≡ pos (n * full_label * main))
+abbrev pub FoundAgain : {R : Type 0} → Ghosts R → ℕ → ℕ → Result (Found R) Refusal → Type 0
+FoundAgain kind n message r = (f : Found _) × (r ≡ Ok f) × (f.message ≡ message) × (kind.weight f.reading ≡ pos (n * full_label * kind.MAIN_UNIT))
 
-module _ {R : Type 0} (weight : R → ℤ) (size : R → ℕ) (main second : ℕ) where
-  -- what was played once at full level from a card, to a sheet with no passes, is found again by a finder of the card's length and rows, given its need:
-  -- h are the calls before the pass
-  abbrev pub Again : Sheet R → (span : ℕ) (rows : List ℕ) (need work : ℕ) → Result (Found R) Refusal → Type 0
-  Again t span rows need work r =
-      (card : Card) (message : ℕ) (h : List Call) (samples : List Sample) →
-      Lawful card → message < 2 ^ length (rows_of card) →
-      Stands weight size main second (h ++ Pass samples ∷ []) t → (book_at weight size main second h t).count ≡ 0 →
-      PlaysWord (codeword (rows_of card) message) samples → length samples ≡ card.len → covered (cells_of t) ≡ card.len →
-      span ≡ card.len → rows ≡ rows_of card → need ≤ work →
-      FoundAgain weight main card.len message r
+-- what was played once at full level from a card, to a sheet with no passes, is found again by a finder of the card's length and rows, given its need:
+-- h are the calls before the pass
+abbrev pub Again : {R F : Type 0} (kind : Ghosts R) → Sheet R → FinderGhosts F → F → (work : ℕ) → Result (Found R) Refusal → Type 0
+Again kind t by finder work r =
+    (card : Card) (message : ℕ) (h : List Call) (samples : List Sample) →
+    Lawful card → message < 2 ^ length (rows_of card) →
+    Stands kind (h ++ Pass samples ∷ []) t → (book_at kind h t).count ≡ 0 →
+    PlaysWord (codeword (rows_of card) message) samples → length samples ≡ card.len → covered (cells_of t) ≡ card.len →
+    by.span finder ≡ card.len → by.rows finder ≡ rows_of card → by.need finder ≤ work →
+    FoundAgain kind card.len message r

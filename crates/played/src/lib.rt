@@ -1,12 +1,12 @@
 #![tactic(auto)]
 
-ghost use Rattle.std.specs.Prelude.{◌≡◌, ℕ, ◌<◌, ◌≤◌, length, MatchResult, slice_index_or};
+ghost use Rattle.std.specs.Prelude.{◌≡◌, ℕ, ◌<◌, ◌≤◌, length, MatchResult, if◌then◌else◌, slice_index_or};
 ghost use Rattle.code.specs.Limits.{max_places};
 ghost use Rattle.code.specs.Words.{digit};
 ghost use Rattle.card.specs.Tables.{card_of};
 ghost use Rattle.sample.specs.declared.Sample.{Sample};
 ghost use Rattle.sheet.specs.Stands.{SearchLaw};
-ghost use Rattle.played.specs.Played.{played_as, Played, Written, Again};
+ghost use Rattle.played.specs.Played.{level_for, played_as, Played, Written, Again};
 
 use card::states::FinishedCard;
 use code::refusal::Refusal;
@@ -22,17 +22,14 @@ const HIGH: f32 = 1.0;
 const LOW: f32 = -1.0;
 
 // A digit at full level, as a level or as a bit.
-fn digit_sample(digit: u64, as_level: u64) -> Sample
+fn digit_sample(digit: u64, as_level: bool) -> Sample
     requires { digit < 2 }
-    ensures { result ≡ played_as as_level digit }
+    ensures { result ≡ (if as_level then Sample.Level (level_for digit) else Sample.Bit digit) }
 {
-    if as_level != 1 {
-        return Sample::Bit(digit as u8);
-    }
-    if digit == 0 {
-        Sample::Level(HIGH)
+    if as_level {
+        Sample::Level(if digit == 0 { HIGH } else { LOW })
     } else {
-        Sample::Level(LOW)
+        Sample::Bit(digit as u8)
     }
 }
 
@@ -41,8 +38,8 @@ fn write_digits(word: u64, levels: u64, samples: &mut [Sample])
     requires { length samples.old ≤ max_places }
     ensures { (k : ℕ) (x : Sample) → k < length samples.new → slice_index_or samples.new k x ≡ played_as (digit k levels) (digit k word) }
 {
-    for i in 0..samples.len() {
-        samples[i] = digit_sample((word >> i) % 2, (levels >> i) % 2);
+    for (place, sample) in samples.iter_mut().enumerate() {
+        *sample = digit_sample((word >> place) % 2, (levels >> place) % 2 == 1);
     }
 }
 
@@ -60,13 +57,9 @@ fn write_message(
     if samples.len() < n {
         return Err(Refusal::OutputShort);
     }
-    match card.encode(message) {
-        Ok(word) => {
-            write_digits(word, levels, &mut samples[0..n]);
-            Ok(n)
-        }
-        Err(refusal) => Err(refusal),
-    }
+    let word = card.encode(message)?;
+    write_digits(word, levels, &mut samples[0..n]);
+    Ok(n)
 }
 
 // Plays a message of a card into lent samples at full level: a place where `levels` has digit 1 as level 1 for 0 and -1 for 1, any other as a bit.
@@ -88,9 +81,8 @@ fn search_played<R: Reading, F: Finder>(
     finder: &F,
     work: &mut [R],
 ) -> Result<Found<R>, Refusal>
-    ensures law { SearchLaw R.Reading.weight R.Reading.size R.Reading.MAIN_UNIT R.Reading.SECOND_UNIT sheet.old sheet.new (F.Finder.span finder.now) (F.Finder.rows finder.now) (F.Finder.need finder.now) work.old work.new result }
-    ensures again { Again R.Reading.weight R.Reading.size R.Reading.MAIN_UNIT R.Reading.SECOND_UNIT sheet.old (F.Finder.span finder.now) (F.Finder.rows finder.now) (F.Finder.need finder.now) (length work.old) result }
-    ensures named { sheet.new.cells.ghost_name ≡ sheet.old.cells.ghost_name }
+    ensures law { SearchLaw R.Reading sheet.old sheet.new F.Finder finder.now work.old work.new result }
+    ensures again { Again R.Reading sheet.old F.Finder finder.now (length work.old) result }
 {
     sheet.search(finder, work)
 }
@@ -102,9 +94,8 @@ pub fn find_again<R: Reading, F: Finder>(
     finder: &F,
     work: &mut [R],
 ) -> Result<Found<R>, Refusal>
-    ensures law { SearchLaw R.Reading.weight R.Reading.size R.Reading.MAIN_UNIT R.Reading.SECOND_UNIT sheet.old sheet.new (F.Finder.span finder.now) (F.Finder.rows finder.now) (F.Finder.need finder.now) work.old work.new result }
-    ensures again { Again R.Reading.weight R.Reading.size R.Reading.MAIN_UNIT R.Reading.SECOND_UNIT sheet.old (F.Finder.span finder.now) (F.Finder.rows finder.now) (F.Finder.need finder.now) (length work.old) result }
-    ensures named { sheet.new.cells.ghost_name ≡ sheet.old.cells.ghost_name }
+    ensures law { SearchLaw R.Reading sheet.old sheet.new F.Finder finder.now work.old work.new result }
+    ensures again { Again R.Reading sheet.old F.Finder finder.now (length work.old) result }
 {
     search_played(sheet, finder, work)
 }

@@ -1,17 +1,20 @@
 -- A search of a sheet that stands for a history: no cell is too large, so it is turned down by length or work memory alone.
-use Rattle.std.proofs.Common.{◌≡◌, ℕ, suc, ◌+◌, ◌<◌, ◌≤◌, cond, List, [], ◌∷◌, map, length, get_or, take, ℤ, Some, None, Ok, Err, Option, Result, sym, refl, ap, ◌∙◌, subst, arith, le-leb, MatchResult}
+use Rattle.std.proofs.Common.{◌≡◌, ℕ, suc, ◌+◌, ◌<◌, ◌≤◌, cond, List, [], ◌∷◌, map, length, get_or, take, Some, None, Ok, Err, Option, Result, sym, refl, ap, ◌∙◌, subst, arith, le-leb, MatchResult}
 use Rattle.std.proofs.lemmas.List.{length-map, length-take, get_or-take, get_or-map}
 use Rattle.code.specs.Limits.{max_places, size_limit}
 use Rattle.code.specs.Words.{Best, agrees}
 use Rattle.code.specs.declared.refusal.Refusal.{Refusal}
 use Rattle.code.specs.declared.refusal.Refusal.TheVariants.{SizeTooLarge}
 use Rattle.code.proofs.Tops.{best_unique}
+use Rattle.reading.specs.declared.Reading.{Ghosts}
+use Rattle.finder.specs.declared.Finder.{Ghosts as FinderGhosts}
 use Rattle.finder.specs.declared.found.Found.{Found}
 use Rattle.finder.specs.Search.{large_from, refusal, Answered, Refused}
 use Rattle.finder.proofs.Refusals.{wrong_length, right_length, memory_short, memory-fits}
 use Rattle.sheet.specs.declared.Sheet.{Sheet}
 use Rattle.sheet.specs.Book.{Call, SearchRule}
 use Rattle.sheet.specs.Stands.{cells_of, front, book_at, Stands, SameFound}
+use Rattle.sheet.proofs.Checks.{some_of}
 
 none_large : (i : ℕ) (ss : List ℕ) (after : Option Refusal) → ((k : ℕ) → k < length ss → get_or ss k 0 ≤ size_limit) → large_from i ss after ≡ after
 none_large i [] after all = refl
@@ -19,63 +22,64 @@ none_large i (x ∷ xs) after all =
     ap (λ t. cond t (large_from (i + 1) xs after) (Some (SizeTooLarge i))) (le-leb x size_limit (all 0 (omega arith)))
     ∙ none_large (i + 1) xs after (λ k h. all (suc k) (omega arith))
 
-module _ {R : Type 0} (weight : R → ℤ) (size : R → ℕ) (span : ℕ) (rows : List ℕ) (need : ℕ) (word work after : List R) where
-  refused_is : (r : Result (Found R) Refusal) (x : Refusal) → refusal span need (map size word) (length work) ≡ Some x →
-      MatchResult r (λ f. Answered weight size span rows need word work after f.message f.reading) (λ e. Refused size span need word work after e) → r ≡ Err x
-  refused_is (Ok f) x is a = let t = a.taken in let z : ◌≡◌ {A = ℕ} 0 1 = cc in absurd (omega arith)
-  refused_is (Err e) x is a = let t : Some e ≡ Some x = sym a.reason ∙ is in cc
+module _ {R F : Type 0} (kind : Ghosts R) (by : FinderGhosts F) (finder : F) where
+  -- a search of the word was answered r
+  abbrev pub Searched : (word work after : List R) → Result (Found R) Refusal → Type 0
+  Searched word work after r = MatchResult r
+      (λ f. Answered kind.weight kind.size (by.span finder) (by.rows finder) (by.need finder) word work after f.message f.reading)
+      (λ e. Refused kind.size (by.span finder) (by.need finder) word work after e)
 
-  answered_is : (r : Result (Found R) Refusal) → refusal span need (map size word) (length work) ≡ None →
-      MatchResult r (λ f. Answered weight size span rows need word work after f.message f.reading) (λ e. Refused size span need word work after e) →
-      (f : Found R) × (r ≡ Ok f) × Best rows (map weight word) f.message × (weight f.reading ≡ agrees rows (map weight word) f.message)
-  answered_is (Ok f) is a = (f, refl, a.is_best, a.weighs)
-  answered_is (Err e) is a = let t = a.reason in let z : ◌≡◌ {A = ℕ} 0 1 = cc in absurd (omega arith)
+  module _ (word work after : List R) where
+    refused_is : (r : Result (Found R) Refusal) (x : Refusal) → refusal (by.span finder) (by.need finder) (map kind.size word) (length work) ≡ Some x →
+        Searched word work after r → r ≡ Err x
+    refused_is (Ok f) x is a = let t = a.taken in let z : ◌≡◌ {A = ℕ} 0 1 = cc in absurd (omega arith)
+    refused_is (Err e) x is a = let t : Some e ≡ Some x = sym a.reason ∙ is in cc
 
-  rule_of : (r : Result (Found R) Refusal) → ((k : ℕ) (d : R) → k < length word → size (get_or word k d) ≤ size_limit) →
-      MatchResult r (λ f. Answered weight size span rows need word work after f.message f.reading) (λ e. Refused size span need word work after e) →
-      SearchRule weight span rows need (length work) (map weight word) r
-  rule_of r light a =
-      let lw = length-map word weight in
-      let ls = length-map word size in
-      let small : (k : ℕ) → k < length (map size word) → get_or (map size word) k 0 ≤ size_limit = λ k h.
-      let d = some_of word k (omega arith) in
-      let e = get_or-map size word k d 0 (omega arith) in let l = light k d (omega arith) in omega arith in
-      let whole : length (map weight word) ≡ span → refusal span need (map size word) (length work) ≡ _ = λ h.
-      right_length span need (map size word) (length work) (omega arith) ∙ none_large 0 (map size word) _ small in
-      record {
-        length_differs = λ h. refused_is r _ (wrong_length span need (map size word) (length work) (λ e. h (omega arith))) a;
-        work_short = λ h short. refused_is r _ (whole h ∙ memory_short need (length work) short) a;
-        answered = λ h fits. answered_is r (whole h ∙ memory-fits need (length work) fits) a;
-      }
-    where
-      some_of : {X : Type 0} (xs : List X) (k : ℕ) → k < length xs → X
-      some_of [] k h = absurd (omega arith)
-      some_of (x ∷ xs) k h = x
+    answered_is : (r : Result (Found R) Refusal) → refusal (by.span finder) (by.need finder) (map kind.size word) (length work) ≡ None → Searched word work after r →
+        (f : Found R) × (r ≡ Ok f) × Best (by.rows finder) (map kind.weight word) f.message × (kind.weight f.reading ≡ agrees (by.rows finder) (map kind.weight word) f.message)
+    answered_is (Ok f) is a = (f, refl, a.is_best, a.weighs)
+    answered_is (Err e) is a = let t = a.reason in let z : ◌≡◌ {A = ℕ} 0 1 = cc in absurd (omega arith)
 
-pub searched : {R : Type 0} (weight : R → ℤ) (size : R → ℕ) (m s : ℕ) (h : List Call) (t : Sheet R) (span : ℕ) (rows : List ℕ) (need : ℕ) (work after : List R) (r : Result (Found R) Refusal) →
-    MatchResult r (λ f. Answered weight size span rows need (front t) work after f.message f.reading) (λ e. Refused size span need (front t) work after e) →
-    Stands weight size m s h t → SearchRule weight span rows need (length work) (book_at weight size m s h t).totals r
-searched weight size m s h t span rows need work after r a st =
-    subst (λ ws. SearchRule weight span rows need (length work) ws r) st.totals
-    (rule_of weight size span rows need (front t) work after r
-    (λ k d hk.
-    let l = length-take max_places (cells_of t) in
-    let e = ap size (get_or-take max_places (cells_of t) k d (omega arith)) in
-    let o = st.light k d (omega arith) in let f = st.few in omega arith)
-    a)
+    rule_of : (r : Result (Found R) Refusal) → ((k : ℕ) (d : R) → k < length word → kind.size (get_or word k d) ≤ size_limit) → Searched word work after r →
+        SearchRule kind by finder (length work) (map kind.weight word) r
+    rule_of r light a =
+        let span = by.span finder in
+        let need = by.need finder in
+        let lw = length-map word kind.weight in
+        let ls = length-map word kind.size in
+        let small : (k : ℕ) → k < length (map kind.size word) → get_or (map kind.size word) k 0 ≤ size_limit = λ k h.
+        let d = some_of word k (omega arith) in
+        let e = get_or-map kind.size word k d 0 (omega arith) in let l = light k d (omega arith) in omega arith in
+        let whole : length (map kind.weight word) ≡ span → refusal span need (map kind.size word) (length work) ≡ _ = λ h.
+        right_length span need (map kind.size word) (length work) (omega arith) ∙ none_large 0 (map kind.size word) _ small in
+        record {
+          length_differs = λ h. refused_is r _ (wrong_length span need (map kind.size word) (length work) (λ e. h (omega arith))) a;
+          work_short = λ h short. refused_is r _ (whole h ∙ memory_short need (length work) short) a;
+          answered = λ h fits. answered_is r (whole h ∙ memory-fits need (length work) fits) a;
+        }
+
+  pub searched : (h : List Call) (t : Sheet R) (work after : List R) (r : Result (Found R) Refusal) → Searched (front t) work after r →
+      Stands kind h t → SearchRule kind by finder (length work) (book_at kind h t).totals r
+  searched h t work after r a st =
+      subst (λ ws. SearchRule kind by finder (length work) ws r) st.totals
+      (rule_of (front t) work after r
+      (λ k d hk.
+      let l = length-take max_places (cells_of t) in
+      let e = ap kind.size (get_or-take max_places (cells_of t) k d (omega arith)) in
+      let o = st.light k d (omega arith) in let f = st.few in omega arith)
+      a)
 
 -- two searches of the same cells with the same rows agree
-pub both_agree : {R : Type 0} (weight : R → ℤ) (size : R → ℕ) (t u : Sheet R) (span : ℕ) (rows : List ℕ) (need span' : ℕ) (rows' : List ℕ) (need' : ℕ) (work left after : List R) (r r' : Result (Found R) Refusal) → cells_of u ≡ cells_of t →
-    MatchResult r (λ f. Answered weight size span rows need (front t) work left f.message f.reading) (λ e. Refused size span need (front t) work left e) →
-    MatchResult r' (λ f. Answered weight size span' rows' need' (front u) left after f.message f.reading) (λ e. Refused size span' need' (front u) left after e) →
-    rows ≡ rows' → SameFound weight r r'
-both_agree weight size t u span rows need span' rows' need' work left after (Ok f) (Ok g) same a b eq =
-    let ws = ap (λ xs. map weight (take max_places xs)) same in
-    let other = subst (λ x. Best x (map weight (front t)) g.message) (sym eq) (subst (λ x. Best rows' x g.message) ws b.is_best) in
-    let m = best_unique rows (map weight (front t)) f.message g.message a.is_best other in (
+pub both_agree : {R A B : Type 0} (kind : Ghosts R) (by_a : FinderGhosts A) (a : A) (by_b : FinderGhosts B) (b : B) (t u : Sheet R) (work left after : List R) (r r' : Result (Found R) Refusal) → cells_of u ≡ cells_of t →
+    Searched kind by_a a (front t) work left r → Searched kind by_b b (front u) left after r' → by_a.rows a ≡ by_b.rows b → SameFound kind r r'
+both_agree kind by_a a by_b b t u work left after (Ok f) (Ok g) same x y eq =
+    let totals = map kind.weight (front t) in
+    let ws = ap (λ xs. map kind.weight (take max_places xs)) same in
+    let other = subst (λ rows. Best rows totals g.message) (sym eq) (subst (λ vs. Best (by_b.rows b) vs g.message) ws y.is_best) in
+    let m = best_unique (by_a.rows a) totals f.message g.message x.is_best other in (
       m,
-      a.weighs ∙ ap (agrees rows (map weight (front t))) m ∙ ap (λ x. agrees x (map weight (front t)) g.message) eq
-          ∙ ap (λ x. agrees rows' x g.message) (sym ws) ∙ sym b.weighs,
+      x.weighs ∙ ap (agrees (by_a.rows a) totals) m ∙ ap (λ rows. agrees rows totals g.message) eq
+          ∙ ap (λ vs. agrees (by_b.rows b) vs g.message) (sym ws) ∙ sym y.weighs,
     )
-both_agree weight size t u span rows need span' rows' need' work left after (Ok f) (Err e) same a b eq = tt
-both_agree weight size t u span rows need span' rows' need' work left after (Err e) r' same a b eq = tt
+both_agree kind by_a a by_b b t u work left after (Ok f) (Err e) same x y eq = tt
+both_agree kind by_a a by_b b t u work left after (Err e) r' same x y eq = tt

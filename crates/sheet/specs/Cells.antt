@@ -3,6 +3,7 @@ use Rattle.std.specs.Prelude.{◌≡◌, ℕ, ◌+◌, ◌<◌, ◌≤◌, min, 
 use Rattle.code.specs.Limits.{max_places, full_label, sum_limit, size_limit}
 use Rattle.code.specs.declared.refusal.Refusal.{Refusal}
 use Rattle.code.specs.declared.refusal.Refusal.TheVariants.{PassLengthDiffers, TooManyPasses, SizeTooLarge}
+use Rattle.reading.specs.declared.Reading.{Ghosts}
 use Rattle.sample.specs.declared.Sample.{Sample}
 use Rattle.sample.specs.Samples.{main_label, second_label, first_fault, AllGood}
 
@@ -25,31 +26,30 @@ label_size x = max (unsigned_abs (main_label x)) (unsigned_abs (second_label x))
 abbrev pub pass_check : ℕ → ℕ → List Sample → Option Refusal
 pass_check n count xs = cond (length xs == n) (cond (nat_lt count max_passes) (first_fault 0 xs) (Some TooManyPasses)) (Some PassLengthDiffers)
 
-module _ {R : Type 0} (weight : R → ℤ) (size : R → ℕ) where
+module _ {R : Type 0} (kind : Ghosts R) where
   -- a reading made from the labels 0 and 0
   pub record Blank (x : R) : Type 0 where
-    pub weighs : weight x ≡ pos 0
-    pub small : size x ≡ 0
+    pub weighs : kind.weight x ≡ pos 0
+    pub small : kind.size x ≡ 0
 
   abbrev pub AllBlank : List R → Type 0
   AllBlank xs = (k : ℕ) (d : R) → k < length xs → Blank (slice_index_or xs k d)
 
-module _ {R : Type 0} (weight : R → ℤ) (size : R → ℕ) (main second : ℕ) where
   -- y is x with the reading made from the sample added
   pub record Grown (sample : Sample) (x y : R) : Type 0 where
-    pub weighs : weight y ≡ weight x +ℤ label_weight main second sample
-    pub small : size y ≤ size x + label_size sample
+    pub weighs : kind.weight y ≡ kind.weight x +ℤ label_weight kind.MAIN_UNIT kind.SECOND_UNIT sample
+    pub small : kind.size y ≤ kind.size x + label_size sample
 
   -- the cell x takes the sample: it is no larger than what is added to, and its new size is at most the limit
   pub record Fits (sample : Sample) (x : R) : Type 0 where
-    pub room : size x + full_label ≤ sum_limit
+    pub room : kind.size x + full_label ≤ sum_limit
     pub new : R
     pub grown : Grown sample x new
-    pub small : size new ≤ size_limit
+    pub small : kind.size new ≤ size_limit
 
   -- the cell x does not take the sample: it is larger than what is added to, or its new size is above the limit
   abbrev pub Overgrown : Sample → R → Type 0
-  Overgrown sample x = (sum_limit < size x + full_label) ⊎ ((new : R) × Grown sample x new × (size_limit < size new))
+  Overgrown sample x = (sum_limit < kind.size x + full_label) ⊎ ((new : R) × Grown sample x new × (size_limit < kind.size new))
 
   -- e is the refusal of the first cell that does not take its sample
   pub record FirstOvergrown (samples : List Sample) (cells : List R) (e : Refusal) : Type 0 where

@@ -4,6 +4,8 @@ use Rattle.code.specs.Limits.{max_places, full_label}
 use Rattle.code.specs.declared.refusal.Refusal.{Refusal}
 use Rattle.code.specs.declared.refusal.Refusal.TheVariants.{PlaceOffSheet}
 use Rattle.sample.specs.declared.Sample.{Sample}
+use Rattle.reading.specs.declared.Reading.{Ghosts}
+use Rattle.finder.specs.declared.Finder.{Ghosts as FinderGhosts}
 use Rattle.finder.specs.declared.found.Found.{Found}
 use Rattle.finder.specs.Search.{Answered, Refused}
 use Rattle.sheet.specs.declared.Sheet.{Sheet}
@@ -17,32 +19,38 @@ cells_of t = t.cells.now
 abbrev pub front : {R : Type 0} → Sheet R → List R
 front t = take max_places (cells_of t)
 
--- no cell was lost, and those beyond the covered ones are as they were
+-- the sheet stands over the same cells: none was lost, and those beyond the covered ones are as they were
 pub record Kept {R : Type 0} (t u : Sheet R) : Type 0 where
+  pub named : u.cells.ghost_name ≡ t.cells.ghost_name
   pub long : length (cells_of u) ≡ length (cells_of t)
   pub beyond : drop max_places (cells_of u) ≡ drop max_places (cells_of t)
 
--- the same cells and the same pass count
+-- the same cells, with the same values, and the same pass count
 pub record Same {R : Type 0} (t u : Sheet R) : Type 0 where
+  pub named : u.cells.ghost_name ≡ t.cells.ghost_name
   pub cells : cells_of u ≡ cells_of t
   pub passes : u.passes ≡ t.passes
 
 -- where both found something, it is the same message and the same weight
-abbrev pub SameFound : {R : Type 0} → (R → ℤ) → Result (Found R) Refusal → Result (Found R) Refusal → Type 0
-SameFound weight (Ok f) (Ok g) = (f.message ≡ g.message) × (weight f.reading ≡ weight g.reading)
-SameFound weight (Ok f) (Err e) = Unit {0}
-SameFound weight (Err e) r = Unit {0}
+abbrev pub SameFound : {R : Type 0} → Ghosts R → Result (Found R) Refusal → Result (Found R) Refusal → Type 0
+SameFound kind (Ok f) (Ok g) = (f.message ≡ g.message) × (kind.weight f.reading ≡ kind.weight g.reading)
+SameFound kind (Ok f) (Err e) = Unit {0}
+SameFound kind (Err e) r = Unit {0}
 
-module _ {R : Type 0} (weight : R → ℤ) (size : R → ℕ) (main second : ℕ) where
+module _ {R : Type 0} (kind : Ghosts R) where
+  -- the book of a sheet over the cells xs after the calls h
+  abbrev pub book_over : List R → List Call → Book
+  book_over xs h = book_of kind.MAIN_UNIT kind.SECOND_UNIT (covered xs) h
+
   -- the book of the sheet t after the calls h
   abbrev pub book_at : List Call → Sheet R → Book
-  book_at h t = book_of main second (covered (cells_of t)) h
+  book_at h t = book_over (cells_of t) h
 
   -- the sheet t is as the book has it after the calls h, and no pass has made a cell larger than it may
   pub record Stands (h : List Call) (t : Sheet R) : Type 0 where
     pub count : t.passes ≡ (book_at h t).count
-    pub totals : map weight (front t) ≡ (book_at h t).totals
-    pub light : (k : ℕ) (d : R) → k < covered (cells_of t) → size (slice_index_or (cells_of t) k d) ≤ full_label * t.passes
+    pub totals : map kind.weight (front t) ≡ (book_at h t).totals
+    pub light : (k : ℕ) (d : R) → k < covered (cells_of t) → kind.size (slice_index_or (cells_of t) k d) ≤ full_label * t.passes
     pub few : t.passes ≤ max_passes
 
   -- for every list of calls h that t stands for, u stands for h and the call, and P holds of the book after h
@@ -53,36 +61,36 @@ module _ {R : Type 0} (weight : R → ℤ) (size : R → ℕ) (main second : ℕ
   pub record PassLaw (t u : Sheet R) (samples : List Sample) (r : Result ℕ Refusal) : Type 0 where
     pub book : Booked t u (Pass samples) (λ b. (r ≡ pass_answer b samples) × PassRule b samples r)
     pub cells : MatchResult r
-        (λ count. Passed weight size main second samples t.passes (front t) (front u) count × (u.passes ≡ count))
-        (λ e. PassFails weight size main second samples t.passes (front t) e × Same t u)
+        (λ count. Passed kind samples t.passes (front t) (front u) count × (u.passes ≡ count))
+        (λ e. PassFails kind samples t.passes (front t) e × Same t u)
     pub kept : Kept t u
 
   pub record StrikeLaw (t u : Sheet R) (place : ℕ) (r : Result (Unit {0}) Refusal) : Type 0 where
     pub book : Booked t u (Strike place) (λ b. r ≡ strike_answer b place)
     pub cells : MatchResult r
-        (λ _. (place < covered (cells_of t)) × (u.passes ≡ t.passes) × ((x : R) × Blank weight size x × (cells_of u ≡ slice_set (cells_of t) place x)))
+        (λ _. (place < covered (cells_of t)) × (u.passes ≡ t.passes) × ((x : R) × Blank kind x × (cells_of u ≡ slice_set (cells_of t) place x)))
         (λ e. (covered (cells_of t) ≤ place) × (e ≡ PlaceOffSheet place) × Same t u)
     pub kept : Kept t u
 
   pub record ClearLaw (t u : Sheet R) : Type 0 where
     pub book : Booked t u Clear (λ b. Unit {0})
     pub fresh : Stands [] u
-    pub cells : AllBlank weight size (front u)
+    pub cells : AllBlank kind (front u)
     pub passes : u.passes ≡ 0
     pub kept : Kept t u
 
-  -- a search of t by a finder of that length, rows and need left u, answered r, and left the work memory as `after`
-  pub record SearchLaw (t u : Sheet R) (span : ℕ) (rows : List ℕ) (need : ℕ) (work after : List R) (r : Result (Found R) Refusal) : Type 0 where
-    pub book : Booked t u Search (λ b. SearchRule weight span rows need (length work) b.totals r)
+  -- a search of t by a finder left u, answered r, and left the work memory as `after`
+  pub record SearchLaw {F : Type 0} (t u : Sheet R) (by : FinderGhosts F) (finder : F) (work after : List R) (r : Result (Found R) Refusal) : Type 0 where
+    pub book : Booked t u Search (λ b. SearchRule kind by finder (length work) b.totals r)
     pub cells : MatchResult r
-        (λ f. Answered weight size span rows need (front t) work after f.message f.reading)
-        (λ e. Refused size span need (front t) work after e)
+        (λ f. Answered kind.weight kind.size (by.span finder) (by.rows finder) (by.need finder) (front t) work after f.message f.reading)
+        (λ e. Refused kind.size (by.span finder) (by.need finder) (front t) work after e)
     pub same : Same t u
 
   -- a search of t by one finder, then by another
-  pub record BothLaw (t u : Sheet R) (span : ℕ) (rows : List ℕ) (need span' : ℕ) (rows' : List ℕ) (need' : ℕ) (work after : List R) (r r' : Result (Found R) Refusal) : Type 0 where
+  pub record BothLaw {A B : Type 0} (t u : Sheet R) (by_a : FinderGhosts A) (a : A) (by_b : FinderGhosts B) (b : B) (work after : List R) (r r' : Result (Found R) Refusal) : Type 0 where
     pub between : Sheet R
     pub left : List R
-    pub by_first : SearchLaw t between span rows need work left r
-    pub by_second : SearchLaw between u span' rows' need' left after r'
-    pub agree : rows ≡ rows' → SameFound weight r r'
+    pub by_first : SearchLaw t between by_a a work left r
+    pub by_second : SearchLaw between u by_b b left after r'
+    pub agree : by_a.rows a ≡ by_b.rows b → SameFound kind r r'

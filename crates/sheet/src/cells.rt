@@ -6,7 +6,7 @@ ghost use Rattle.sheet.specs.Cells.{Blank, AllBlank, Grown, Fits, Overgrown, Fir
 use code::limits::{MAX_PLACES, SIZE_LIMIT};
 use code::refusal::Refusal;
 use reading::Reading;
-use sample::{Sample, check_samples};
+use sample::{Labels, Sample, check_samples};
 
 // The largest number of passes that a sheet takes.
 const MAX_PASSES: u32 = 1024;
@@ -23,14 +23,14 @@ pub(crate) fn covering(len: usize) -> usize
 
 // The reading made from 0 and 0.
 pub(crate) fn blank<R: Reading>() -> R
-    ensures { Blank R.Reading.weight R.Reading.size result }
+    ensures { Blank R.Reading result }
 {
     R::make(0, 0)
 }
 
 // Sets each cell to the reading made from 0 and 0.
 pub(crate) fn lay_out<R: Reading>(cells: &mut [R])
-    ensures { AllBlank R.Reading.weight R.Reading.size cells.new }
+    ensures { AllBlank R.Reading cells.new }
 {
     for cell in cells.iter_mut() {
         *cell = blank();
@@ -41,36 +41,32 @@ pub(crate) fn lay_out<R: Reading>(cells: &mut [R])
 fn grown<R: Reading>(cell: R, sample: &Sample, place: usize) -> R
     requires room { R.Reading.size cell + full_label ≤ sum_limit }
     requires good { Good sample.now }
-    ensures { Grown R.Reading.weight R.Reading.size R.Reading.MAIN_UNIT R.Reading.SECOND_UNIT sample.now cell result }
+    ensures { Grown R.Reading sample.now cell result }
 {
-    match sample.labels(place) {
-        Ok(labels) => cell.add(R::make(labels.main, labels.second)),
-        Err(_) => cell,
-    }
+    let Labels { main, second } = sample.labels(place).unwrap();
+    cell.add(R::make(main, second))
 }
 
 // Whether the cell takes the sample.
 fn takes<R: Reading>(cell: R, sample: &Sample, place: usize) -> bool
     requires { Good sample.now }
-    ensures yes { result ≡ true → Fits R.Reading.weight R.Reading.size R.Reading.MAIN_UNIT R.Reading.SECOND_UNIT sample.now cell }
-    ensures no { result ≡ false → Overgrown R.Reading.weight R.Reading.size R.Reading.MAIN_UNIT R.Reading.SECOND_UNIT sample.now cell }
+    ensures yes { result ≡ true → Fits R.Reading sample.now cell }
+    ensures no { result ≡ false → Overgrown R.Reading sample.now cell }
 {
-    if cell.size() > LARGEST_ADDED {
-        return false;
-    }
-    grown(cell, sample, place).size() <= SIZE_LIMIT
+    cell.size() <= LARGEST_ADDED && grown(cell, sample, place).size() <= SIZE_LIMIT
 }
 
 // Checks that each cell takes its sample; refuses the first that does not.
 fn check_sizes<R: Reading>(cells: &[R], samples: &[Sample]) -> Result<(), Refusal>
     requires { (length samples.now ≡ length cells.now) × (AllGood samples.now) }
     ensures { MatchResult result
-        (λ _. (k : ℕ) (x : Sample) (d : R) → k < length samples.now → Fits R.Reading.weight R.Reading.size R.Reading.MAIN_UNIT R.Reading.SECOND_UNIT (slice_index_or samples.now k x) (slice_index_or cells.now k d))
-        (FirstOvergrown R.Reading.weight R.Reading.size R.Reading.MAIN_UNIT R.Reading.SECOND_UNIT samples.now cells.now) }
+        (λ _. (k : ℕ) (x : Sample) (d : R) → k < length samples.now → Fits R.Reading (slice_index_or samples.now k x) (slice_index_or cells.now k d))
+        (FirstOvergrown R.Reading samples.now cells.now) }
 {
-    for (i, sample) in samples.iter().enumerate() {
-        if !takes(cells[i], sample, i) {
-            return Err(Refusal::SizeTooLarge { place: i });
+    // `cells.iter().zip(samples).enumerate()` leaves the refusal unproved: no lemma of std says which pair such a loop is at.
+    for (place, sample) in samples.iter().enumerate() {
+        if !takes(cells[place], sample, place) {
+            return Err(Refusal::SizeTooLarge { place });
         }
     }
     Ok(())
@@ -79,8 +75,8 @@ fn check_sizes<R: Reading>(cells: &[R], samples: &[Sample]) -> Result<(), Refusa
 // The checks of a pass, in their order: its length, the passes taken, its samples, the new sizes.
 fn check_pass<R: Reading>(cells: &[R], passes: u32, samples: &[Sample]) -> Result<(), Refusal>
     ensures { MatchResult result
-        (λ _. PassFits R.Reading.weight R.Reading.size R.Reading.MAIN_UNIT R.Reading.SECOND_UNIT samples.now passes cells.now)
-        (PassFails R.Reading.weight R.Reading.size R.Reading.MAIN_UNIT R.Reading.SECOND_UNIT samples.now passes cells.now) }
+        (λ _. PassFits R.Reading samples.now passes cells.now)
+        (PassFails R.Reading samples.now passes cells.now) }
 {
     if samples.len() != cells.len() {
         return Err(Refusal::PassLengthDiffers);
@@ -88,21 +84,19 @@ fn check_pass<R: Reading>(cells: &[R], passes: u32, samples: &[Sample]) -> Resul
     if passes >= MAX_PASSES {
         return Err(Refusal::TooManyPasses);
     }
-    match check_samples(samples) {
-        Ok(()) => check_sizes(cells, samples),
-        Err(refusal) => Err(refusal),
-    }
+    check_samples(samples)?;
+    check_sizes(cells, samples)
 }
 
 // Adds to each cell the reading made from its sample.
 fn add_samples<R: Reading>(cells: &mut [R], samples: &[Sample])
     requires long { length samples.now ≡ length cells.old }
     requires good { AllGood samples.now }
-    requires fits { (k : ℕ) (x : Sample) (d : R) → k < length samples.now → Fits R.Reading.weight R.Reading.size R.Reading.MAIN_UNIT R.Reading.SECOND_UNIT (slice_index_or samples.now k x) (slice_index_or cells.old k d) }
-    ensures { Added R.Reading.weight R.Reading.size R.Reading.MAIN_UNIT R.Reading.SECOND_UNIT samples.now (length samples.now) cells.old cells.new }
+    requires fits { (k : ℕ) (x : Sample) (d : R) → k < length samples.now → Fits R.Reading (slice_index_or samples.now k x) (slice_index_or cells.old k d) }
+    ensures { Added R.Reading samples.now (length samples.now) cells.old cells.new }
 {
-    for (i, sample) in samples.iter().enumerate() {
-        cells[i] = grown(cells[i], sample, i);
+    for (place, cell) in cells.iter_mut().enumerate() {
+        *cell = grown(*cell, &samples[place], place);
     }
 }
 
@@ -113,14 +107,10 @@ pub(crate) fn add_pass<R: Reading>(
     samples: &[Sample],
 ) -> Result<u32, Refusal>
     ensures { MatchResult result
-        (Passed R.Reading.weight R.Reading.size R.Reading.MAIN_UNIT R.Reading.SECOND_UNIT samples.now passes cells.old cells.new)
-        (λ e. PassFails R.Reading.weight R.Reading.size R.Reading.MAIN_UNIT R.Reading.SECOND_UNIT samples.now passes cells.old e × (cells.new ≡ cells.old)) }
+        (Passed R.Reading samples.now passes cells.old cells.new)
+        (λ e. PassFails R.Reading samples.now passes cells.old e × (cells.new ≡ cells.old)) }
 {
-    match check_pass(cells, passes, samples) {
-        Ok(()) => {
-            add_samples(cells, samples);
-            Ok(passes + 1)
-        }
-        Err(refusal) => Err(refusal),
-    }
+    check_pass(cells, passes, samples)?;
+    add_samples(cells, samples);
+    Ok(passes + 1)
 }

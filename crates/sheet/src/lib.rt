@@ -25,7 +25,7 @@ pub struct Sheet<'a, R> {
 impl<'a, R: Reading> Sheet<'a, R> {
     // Lays out a sheet over the cells: each covered one is set to the reading made from 0 and 0, and there are no passes.
     pub fn new(cells: &'a mut [R]) -> Self
-        ensures stands { Stands R.Reading.weight R.Reading.size R.Reading.MAIN_UNIT R.Reading.SECOND_UNIT [] result }
+        ensures stands { Stands R.Reading [] result }
         ensures long { length (cells_of result) ≡ length cells.old }
         ensures beyond { drop max_places (cells_of result) ≡ drop max_places cells.old }
         ensures named { result.cells.ghost_name ≡ cells.entry.ghost_name }
@@ -60,38 +60,28 @@ impl<'a, R: Reading> Sheet<'a, R> {
     // Takes a pass: adds to each cell the reading made from its sample, and answers the new pass count.
     // The pass is checked whole before anything is added.
     pub fn pass(&mut self, samples: &[Sample]) -> Result<u32, Refusal>
-        ensures law { PassLaw R.Reading.weight R.Reading.size R.Reading.MAIN_UNIT R.Reading.SECOND_UNIT self.old self.new samples.now result }
-        ensures named { self.new.cells.ghost_name ≡ self.old.cells.ghost_name }
+        ensures { PassLaw R.Reading self.old self.new samples.now result }
     {
         self.pass_covered(samples)
     }
 
     fn pass_covered(&mut self, samples: &[Sample]) -> Result<u32, Refusal>
-        ensures law { PassLaw R.Reading.weight R.Reading.size R.Reading.MAIN_UNIT R.Reading.SECOND_UNIT self.old self.new samples.now result }
-        ensures named { self.new.cells.ghost_name ≡ self.old.cells.ghost_name }
+        ensures { PassLaw R.Reading self.old self.new samples.now result }
     {
         let n = covering(self.cells.len());
-        let passes = self.passes;
-        match add_pass(&mut self.cells[0..n], passes, samples) {
-            Ok(count) => {
-                self.passes = count;
-                Ok(count)
-            }
-            Err(refusal) => Err(refusal),
-        }
+        self.passes = add_pass(&mut self.cells[0..n], self.passes, samples)?;
+        Ok(self.passes)
     }
 
     // Strikes one cell: sets it to the reading made from 0 and 0.
     pub fn strike(&mut self, place: usize) -> Result<(), Refusal>
-        ensures law { StrikeLaw R.Reading.weight R.Reading.size R.Reading.MAIN_UNIT R.Reading.SECOND_UNIT self.old self.new place result }
-        ensures named { self.new.cells.ghost_name ≡ self.old.cells.ghost_name }
+        ensures { StrikeLaw R.Reading self.old self.new place result }
     {
         self.strike_covered(place)
     }
 
     fn strike_covered(&mut self, place: usize) -> Result<(), Refusal>
-        ensures law { StrikeLaw R.Reading.weight R.Reading.size R.Reading.MAIN_UNIT R.Reading.SECOND_UNIT self.old self.new place result }
-        ensures named { self.new.cells.ghost_name ≡ self.old.cells.ghost_name }
+        ensures { StrikeLaw R.Reading self.old self.new place result }
     {
         if place >= covering(self.cells.len()) {
             return Err(Refusal::PlaceOffSheet { place });
@@ -102,15 +92,13 @@ impl<'a, R: Reading> Sheet<'a, R> {
 
     // Lays the sheet out anew.
     pub fn clear(&mut self)
-        ensures law { ClearLaw R.Reading.weight R.Reading.size R.Reading.MAIN_UNIT R.Reading.SECOND_UNIT self.old self.new }
-        ensures named { self.new.cells.ghost_name ≡ self.old.cells.ghost_name }
+        ensures { ClearLaw R.Reading self.old self.new }
     {
         self.clear_covered();
     }
 
     fn clear_covered(&mut self)
-        ensures law { ClearLaw R.Reading.weight R.Reading.size R.Reading.MAIN_UNIT R.Reading.SECOND_UNIT self.old self.new }
-        ensures named { self.new.cells.ghost_name ≡ self.old.cells.ghost_name }
+        ensures { ClearLaw R.Reading self.old self.new }
     {
         let n = covering(self.cells.len());
         lay_out(&mut self.cells[0..n]);
@@ -119,15 +107,13 @@ impl<'a, R: Reading> Sheet<'a, R> {
 
     // Hands the covered cells to a finder. The sheet is the same afterwards.
     pub fn search<F: Finder>(&mut self, finder: &F, work: &mut [R]) -> Result<Found<R>, Refusal>
-        ensures law { SearchLaw R.Reading.weight R.Reading.size R.Reading.MAIN_UNIT R.Reading.SECOND_UNIT self.old self.new (F.Finder.span finder.now) (F.Finder.rows finder.now) (F.Finder.need finder.now) work.old work.new result }
-        ensures named { self.new.cells.ghost_name ≡ self.old.cells.ghost_name }
+        ensures { SearchLaw R.Reading self.old self.new F.Finder finder.now work.old work.new result }
     {
         self.search_covered(finder, work)
     }
 
     fn search_covered<F: Finder>(&mut self, finder: &F, work: &mut [R]) -> Result<Found<R>, Refusal>
-        ensures law { SearchLaw R.Reading.weight R.Reading.size R.Reading.MAIN_UNIT R.Reading.SECOND_UNIT self.old self.new (F.Finder.span finder.now) (F.Finder.rows finder.now) (F.Finder.need finder.now) work.old work.new result }
-        ensures named { self.new.cells.ghost_name ≡ self.old.cells.ghost_name }
+        ensures { SearchLaw R.Reading self.old self.new F.Finder finder.now work.old work.new result }
     {
         let n = covering(self.cells.len());
         finder.search(&mut self.cells[0..n], work)
@@ -141,8 +127,7 @@ impl<'a, R: Reading> Sheet<'a, R> {
         b: &B,
         work: &mut [R],
     ) -> (Result<Found<R>, Refusal>, Result<Found<R>, Refusal>)
-        ensures law { BothLaw R.Reading.weight R.Reading.size R.Reading.MAIN_UNIT R.Reading.SECOND_UNIT self.old self.new (A.Finder.span a.now) (A.Finder.rows a.now) (A.Finder.need a.now) (B.Finder.span b.now) (B.Finder.rows b.now) (B.Finder.need b.now) work.old work.new result.0 result.1 }
-        ensures named { self.new.cells.ghost_name ≡ self.old.cells.ghost_name }
+        ensures { BothLaw R.Reading self.old self.new A.Finder a.now B.Finder b.now work.old work.new result.0 result.1 }
     {
         self.search_twice(a, b, work)
     }
@@ -153,8 +138,7 @@ impl<'a, R: Reading> Sheet<'a, R> {
         b: &B,
         work: &mut [R],
     ) -> (Result<Found<R>, Refusal>, Result<Found<R>, Refusal>)
-        ensures law { BothLaw R.Reading.weight R.Reading.size R.Reading.MAIN_UNIT R.Reading.SECOND_UNIT self.old self.new (A.Finder.span a.now) (A.Finder.rows a.now) (A.Finder.need a.now) (B.Finder.span b.now) (B.Finder.rows b.now) (B.Finder.need b.now) work.old work.new result.0 result.1 }
-        ensures named { self.new.cells.ghost_name ≡ self.old.cells.ghost_name }
+        ensures { BothLaw R.Reading self.old self.new A.Finder a.now B.Finder b.now work.old work.new result.0 result.1 }
     {
         let first = self.search_covered(a, work);
         let second = self.search_covered(b, work);

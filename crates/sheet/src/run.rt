@@ -1,8 +1,7 @@
-ghost use Rattle.std.specs.Prelude.{◌≡◌, ◌<◌, ◌≤◌, List, length, drop, MatchResult};
+ghost use Rattle.std.specs.Prelude.{◌≡◌, ◌<◌, ◌≤◌, length, drop, MatchResult};
 ghost use Rattle.code.specs.declared.refusal.Refusal.TheVariants.{OutputShort};
-ghost use Rattle.sheet.specs.Book.{Call};
-ghost use Rattle.sheet.specs.Stands.{Stands, Kept};
-ghost use Rattle.sheet.specs.Runs.{Served, Ran, Spared, RanOver};
+ghost use Rattle.sheet.specs.Stands.{Kept};
+ghost use Rattle.sheet.specs.Runs.{ByName, Served, RanFrom, RanOver};
 
 use crate::Sheet;
 use code::refusal::Refusal;
@@ -32,8 +31,21 @@ pub enum Answer<R> {
 impl<'a, R: Reading> Sheet<'a, R> {
     // Makes one request of the sheet.
     pub fn serve<F: Finder>(&mut self, request: &Request<F>, work: &mut [R]) -> Answer<R>
-        ensures law { Served R.Reading.weight R.Reading.size R.Reading.MAIN_UNIT R.Reading.SECOND_UNIT F.Finder.span F.Finder.rows F.Finder.need (length work.old) self.old self.new request.now work.old work.new result }
-        ensures named { self.new.cells.ghost_name ≡ self.old.cells.ghost_name }
+        ensures { Served R.Reading F.Finder (length work.old) self.old self.new request.now work.old work.new result }
+    {
+        self.serve_by(request, &|finder| finder, work)
+    }
+
+    // Makes one request of the sheet, a search by the finder that `finder_of` gives for what the request names.
+    fn serve_by<'f, N: 'f, F: Finder + 'f, L: Fn(&'f N) -> &'f F>(
+        &mut self,
+        request: &Request<'f, N>,
+        finder_of: &L,
+        work: &mut [R],
+    ) -> Answer<R>
+        requires { L.IsAlwaysCallable finder_of.now }
+        ensures law { ByName L.Fn finder_of.now F.Finder (λ by. Served R.Reading by (length work.old) self.old self.new request.now work.old work.new result) }
+        ensures kept { Kept self.old self.new }
     {
         match request {
             Request::Pass(samples) => Answer::Passed(self.pass(samples)),
@@ -42,42 +54,70 @@ impl<'a, R: Reading> Sheet<'a, R> {
                 self.clear();
                 Answer::Cleared
             }
-            Request::Search(finder) => Answer::Searched(self.search(*finder, work)),
+            Request::Search(name) => Answer::Searched(self.search(finder_of(name), work)),
         }
     }
 
     // Makes the requests in order and writes the answers out.
-    fn run<F: Finder>(&mut self, requests: &[Request<F>], work: &mut [R], answers: &mut [Answer<R>])
-        requires { length requests.now ≤ length answers.old }
-        ensures law { (h : List Call) → Stands R.Reading.weight R.Reading.size R.Reading.MAIN_UNIT R.Reading.SECOND_UNIT h self.old → Ran R.Reading.weight R.Reading.size R.Reading.MAIN_UNIT R.Reading.SECOND_UNIT F.Finder.span F.Finder.rows F.Finder.need (length work.old) h requests.now (length requests.now) self.old self.new answers.new }
+    fn run<'f, N: 'f, F: Finder + 'f, L: Fn(&'f N) -> &'f F>(
+        &mut self,
+        requests: &[Request<'f, N>],
+        finder_of: L,
+        work: &mut [R],
+        answers: &mut [Answer<R>],
+    )
+        requires room { length requests.now ≤ length answers.old }
+        requires callable { L.IsAlwaysCallable finder_of }
+        ensures law { ByName L.Fn finder_of F.Finder (λ by. RanFrom R.Reading by requests.now (length requests.now) self.old self.new work.old work.new answers.new) }
         ensures kept { Kept self.old self.new }
-        ensures spared { Spared F.Finder.need requests.now (length requests.now) answers.new work.old work.new }
         ensures rest { drop (length requests.now) answers.new ≡ drop (length requests.now) answers.old }
-        ensures named { self.new.cells.ghost_name ≡ self.old.cells.ghost_name }
     {
-        for i in 0..requests.len() {
-            answers[i] = self.serve(&requests[i], work);
+        // After `answers.iter_mut().zip(requests)` a proof knows no answer.
+        for (i, request) in requests.iter().enumerate() {
+            answers[i] = self.serve_by(request, &finder_of, work);
         }
     }
 }
 
 // Lays out a sheet over the cells and makes the requests of it; answers the pass count.
-fn run_laid_out<R: Reading, F: Finder>(
+fn run_laid_out<'f, R: Reading, N: 'f, F: Finder + 'f, L: Fn(&'f N) -> &'f F>(
     cells: &mut [R],
-    requests: &[Request<F>],
+    requests: &[Request<'f, N>],
+    finder_of: L,
     work: &mut [R],
     answers: &mut [Answer<R>],
 ) -> u32
-    requires { length requests.now ≤ length answers.old }
-    ensures { RanOver R.Reading.weight R.Reading.size R.Reading.MAIN_UNIT R.Reading.SECOND_UNIT F.Finder.span F.Finder.rows F.Finder.need requests.now result cells.old cells.new work.old work.new answers.old answers.new }
+    requires room { length requests.now ≤ length answers.old }
+    requires callable { L.IsAlwaysCallable finder_of }
+    ensures { ByName L.Fn finder_of F.Finder (λ by. RanOver R.Reading by requests.now result cells.old cells.new work.old work.new answers.old answers.new) }
 {
     let mut sheet = Sheet::new(cells);
-    sheet.run(requests, work, answers);
+    sheet.run(requests, finder_of, work, answers);
     sheet.passes
 }
 
-// Lays out a sheet over the cells, makes the requests of it in order, and writes an answer to each; answers the pass count.
-// Its contract is the law of runs. Where the memory for the answers is too short, nothing is done.
+// Lays out a sheet over the cells, makes the requests of it in order, each search by the finder that `finder_of` gives for what the request names,
+// and writes an answer to each; answers the pass count. Its contract is the law of runs. Where the memory for the answers is too short, nothing is done.
+pub fn run_over_by<'f, R: Reading, N: 'f, F: Finder + 'f, L: Fn(&'f N) -> &'f F>(
+    cells: &mut [R],
+    requests: &[Request<'f, N>],
+    finder_of: L,
+    work: &mut [R],
+    answers: &mut [Answer<R>],
+) -> Result<u32, Refusal>
+    requires { L.IsAlwaysCallable finder_of }
+    ensures law { ByName L.Fn finder_of F.Finder (λ by. MatchResult result
+        (λ count. RanOver R.Reading by requests.now count cells.old cells.new work.old work.new answers.old answers.new)
+        (λ e. (e ≡ OutputShort) × (length answers.old < length requests.now))) }
+    ensures refused { MatchResult result (λ _. length requests.now ≤ length answers.old) (λ _. (cells.new ≡ cells.old) × (work.new ≡ work.old) × (answers.new ≡ answers.old)) }
+{
+    if answers.len() < requests.len() {
+        return Err(Refusal::OutputShort);
+    }
+    Ok(run_laid_out(cells, requests, finder_of, work, answers))
+}
+
+// The same where each request lends its finder.
 pub fn run_over<R: Reading, F: Finder>(
     cells: &mut [R],
     requests: &[Request<F>],
@@ -85,12 +125,9 @@ pub fn run_over<R: Reading, F: Finder>(
     answers: &mut [Answer<R>],
 ) -> Result<u32, Refusal>
     ensures law { MatchResult result
-        (λ count. RanOver R.Reading.weight R.Reading.size R.Reading.MAIN_UNIT R.Reading.SECOND_UNIT F.Finder.span F.Finder.rows F.Finder.need requests.now count cells.old cells.new work.old work.new answers.old answers.new)
+        (λ count. RanOver R.Reading F.Finder requests.now count cells.old cells.new work.old work.new answers.old answers.new)
         (λ e. (e ≡ OutputShort) × (length answers.old < length requests.now)) }
     ensures refused { MatchResult result (λ _. length requests.now ≤ length answers.old) (λ _. (cells.new ≡ cells.old) × (work.new ≡ work.old) × (answers.new ≡ answers.old)) }
 {
-    if answers.len() < requests.len() {
-        return Err(Refusal::OutputShort);
-    }
-    Ok(run_laid_out(cells, requests, work, answers))
+    run_over_by(cells, requests, |finder| finder, work, answers)
 }

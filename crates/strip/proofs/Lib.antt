@@ -1,2 +1,1 @@
-mod ByCard
 mod ByFile

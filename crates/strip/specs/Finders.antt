@@ -2,26 +2,36 @@
 use Rattle.std.specs.Prelude.{◌≡◌, ℕ, List}
 use Rattle.card.specs.Cards.{Card, rows_of}
 use Rattle.card_finder.specs.Whole.{group_need_at, group_rows, group_span, need_of_two, plain_need, plain_rows, plain_span, rows_of_two, span_of_two}
+use Rattle.coset_layer.specs.declared.CosetLayer.{CosetLayer}
+use Rattle.finder.specs.Sides.{of_side}
+use Rattle.finder.specs.declared.Finder.{Ghosts}
+use Rattle.finder.specs.declared.either.Either.{Either}
+use Rattle.finder.specs.declared.plain.PlainFinder.{PlainFinder}
+use Rattle.group_finder.specs.declared.GroupFinder.{GroupFinder}
 use Rattle.strip.specs.declared.Method.{Method}
 use Rattle.strip.specs.declared.Method.TheVariants.{Plain, Group}
 use Rattle.strip.specs.declared.finders.CardFinders.{CardFinders}
-use Rattle.strip.specs.Strips.{need_on}
+use Rattle.strip.specs.Strips.{by_card}
 
--- the length, the rows and the need of the finder of each method
-abbrev pub span_by : CardFinders → Method → ℕ
-span_by f Plain = span_of_two plain_span f.plain
-span_by f Group = span_of_two group_span f.group
+-- a finder of a card
+abbrev pub CardFinder : Type 0
+CardFinder = Either (CosetLayer (CosetLayer PlainFinder)) (CosetLayer (CosetLayer GroupFinder))
 
-abbrev pub rows_by : CardFinders → Method → List ℕ
-rows_by f Plain = rows_of_two plain_span plain_rows f.plain
-rows_by f Group = rows_of_two group_span group_rows f.group
+-- the length, the rows and the need of a finder of a card
+abbrev pub own : Ghosts CardFinder
+own = record {
+  span = of_side (span_of_two plain_span) (span_of_two group_span);
+  rows = of_side (rows_of_two plain_span plain_rows) (rows_of_two group_span group_rows);
+  need = of_side (need_of_two plain_need) (need_of_two group_need_at);
+}
 
-abbrev pub need_by : CardFinders → Method → ℕ
-need_by f Plain = need_of_two plain_need f.plain
-need_by f Group = need_of_two group_need_at f.group
+-- the finder of each method
+abbrev pub finder_of : CardFinders → Method → CardFinder
+finder_of f Plain = f.plain
+finder_of f Group = f.group
 
--- both finders have the length and the rows of the card k, and the need of their method
+-- each finder has the length and the rows of the card k, and the need of its method
 pub record FindersOf (k : Card) (f : CardFinders) : Type 0 where
-  pub span : (m : Method) → span_by f m ≡ k.len
-  pub rows : (m : Method) → rows_by f m ≡ rows_of k
-  pub need : (m : Method) → need_by f m ≡ need_on k m
+  pub span : (m : Method) → own.span (finder_of f m) ≡ (by_card k).span m
+  pub rows : (m : Method) → own.rows (finder_of f m) ≡ (by_card k).rows m
+  pub need : (m : Method) → own.need (finder_of f m) ≡ (by_card k).need m

@@ -1,5 +1,5 @@
 -- Runs of a sheet that is searched by the finders of a card.
-use Rattle.std.specs.Prelude.{◌≡◌, ℕ, ◌<◌, List, length, drop, ℤ, Ok}
+use Rattle.std.specs.Prelude.{◌≡◌, ℕ, ◌<◌, List, length, drop, Ok}
 use Rattle.code.specs.declared.refusal.Refusal.{Refusal}
 use Rattle.code.specs.declared.refusal.Refusal.TheVariants.{OutputShort}
 use Rattle.card.specs.Cards.{Card, rows_of}
@@ -8,6 +8,8 @@ use Rattle.card_list.specs.declared.requests.Answer.{Answer as CardAnswer}
 use Rattle.card_list.specs.Requests.{OwnList, card_after}
 use Rattle.card_file.specs.Files.{read_card_lem}
 use Rattle.card_finder.specs.Whole.{group_need_of, plain_need_of}
+use Rattle.reading.specs.declared.Reading.{Ghosts}
+use Rattle.finder.specs.declared.Finder.{Ghosts as FinderGhosts}
 use Rattle.sheet.specs.declared.run.Request.{Request}
 use Rattle.sheet.specs.declared.run.Answer.{Answer}
 use Rattle.sheet.specs.Runs.{RanOver}
@@ -23,10 +25,14 @@ abbrev pub need_on : Card → Method → ℕ
 need_on k Plain = plain_need_of k
 need_on k Group = group_need_of k
 
-module _ {R : Type 0} (weight : R → ℤ) (size : R → ℕ) (main second : ℕ) where
+-- each method searches by the length and the rows of the card k, with its own need
+abbrev pub by_card : Card → FinderGhosts Method
+by_card k = record { span = λ _. k.len; rows = λ _. rows_of k; need = need_on k }
+
+module _ {R : Type 0} (kind : Ghosts R) where
   -- the law of runs, where every search is by the length and the rows of the card k
   abbrev pub CardRun : Card → List (Request Method) → ℕ → (xs ys work after : List R) → (old answers : List (Answer R)) → Type 0
-  CardRun k = RanOver weight size main second (λ _. k.len) (λ _. rows_of k) (need_on k)
+  CardRun k = RanOver kind (by_card k)
 
   -- the requests `rows` to a card just started were answered `told`, each as due from the rows taken before it,
   -- and the law of runs holds of the sheet with the card that they left

@@ -1,28 +1,30 @@
-// The two finders of a card, and a sheet that is searched by them.
-ghost use Rattle.std.specs.Prelude.{◌≡◌, ◌≤◌, List, length, drop};
+// The two finders of a card.
+ghost use Rattle.std.specs.Prelude.{◌≡◌, ◌≤◌, length, MatchResult};
+ghost use Rattle.card.specs.Cards.{Card};
 ghost use Rattle.card.specs.Tables.{card_of};
-ghost use Rattle.sheet.specs.Book.{Call};
-ghost use Rattle.sheet.specs.Stands.{Kept, Stands};
-ghost use Rattle.sheet.specs.Runs.{Ran, RanOver, Served, Spared};
-ghost use Rattle.strip.specs.Strips.{CardRun};
-ghost use Rattle.strip.specs.Finders.{FindersOf, need_by, rows_by, span_by};
+ghost use Rattle.strip.specs.Strips.{CardRun, Short};
+ghost use Rattle.strip.specs.Finders.{FindersOf, finder_of};
 
 use crate::Method;
 use card::states::FinishedCard;
+use code::refusal::Refusal;
 use card_finder::{group_finder, plain_finder};
 use coset_layer::CosetLayer;
-use finder::Finder;
+use finder::either::Either;
 use finder::plain::PlainFinder;
 use group_finder::GroupFinder;
 use reading::Reading;
-use sheet::Sheet;
-use sheet::run::{Answer, Request};
+use sheet::run::{Answer, Request, run_over_by};
 
-// The plain finder and the group finder of a card, each under the card's coset layers.
+// A finder of a card: the plain finder or the group finder, under the card's coset layers.
+pub(crate) type CardFinder =
+    Either<CosetLayer<CosetLayer<PlainFinder>>, CosetLayer<CosetLayer<GroupFinder>>>;
+
+// The finders of a card.
 #[derive(Clone, Copy)]
 pub(crate) struct CardFinders {
-    plain: CosetLayer<CosetLayer<PlainFinder>>,
-    group: CosetLayer<CosetLayer<GroupFinder>>,
+    plain: CardFinder,
+    group: CardFinder,
 }
 
 impl CardFinders {
@@ -30,68 +32,34 @@ impl CardFinders {
         ensures { FindersOf (card_of card.now.table) result }
     {
         CardFinders {
-            plain: plain_finder(card),
-            group: group_finder(card),
+            plain: Either::First(plain_finder(card)),
+            group: Either::Second(group_finder(card)),
         }
     }
 
-    // Makes one request of a sheet.
-    fn serve<R: Reading>(
-        &self,
-        sheet: &mut Sheet<R>,
-        request: &Request<Method>,
-        work: &mut [R],
-    ) -> Answer<R>
-        ensures law { Served R.Reading.weight R.Reading.size R.Reading.MAIN_UNIT R.Reading.SECOND_UNIT (span_by self.now) (rows_by self.now) (need_by self.now) (length work.old) sheet.old sheet.new request.now work.old work.new result }
-        ensures named { sheet.new.cells.ghost_name ≡ sheet.old.cells.ghost_name }
+    // The finder of a method.
+    pub(crate) fn by(&self, method: Method) -> &CardFinder
+        ensures { result.now ≡ finder_of self.now method }
     {
-        match request {
-            Request::Pass(samples) => Answer::Passed(sheet.pass(samples)),
-            Request::Strike(place) => Answer::Struck(sheet.strike(*place)),
-            Request::Clear => {
-                sheet.clear();
-                Answer::Cleared
-            }
-            Request::Search(Method::Plain) => Answer::Searched(sheet.search(&self.plain, work)),
-            Request::Search(Method::Group) => Answer::Searched(sheet.search(&self.group, work)),
+        match method {
+            Method::Plain => &self.plain,
+            Method::Group => &self.group,
         }
     }
 
-    // Makes the requests in order and writes the answers out.
-    fn run<R: Reading>(
-        &self,
-        sheet: &mut Sheet<R>,
-        requests: &[Request<Method>],
+    // Lays out a sheet over the cells and makes the requests of it, each search by the finder of its method.
+    pub(crate) fn run<'f, R: Reading>(
+        &'f self,
+        cells: &mut [R],
+        requests: &'f [Request<'f, Method>],
         work: &mut [R],
         answers: &mut [Answer<R>],
-    )
-        requires { length requests.now ≤ length answers.old }
-        ensures law { (h : List Call) → Stands R.Reading.weight R.Reading.size R.Reading.MAIN_UNIT R.Reading.SECOND_UNIT h sheet.old → Ran R.Reading.weight R.Reading.size R.Reading.MAIN_UNIT R.Reading.SECOND_UNIT (span_by self.now) (rows_by self.now) (need_by self.now) (length work.old) h requests.now (length requests.now) sheet.old sheet.new answers.new }
-        ensures kept { Kept sheet.old sheet.new }
-        ensures spared { Spared (need_by self.now) requests.now (length requests.now) answers.new work.old work.new }
-        ensures rest { drop (length requests.now) answers.new ≡ drop (length requests.now) answers.old }
-        ensures named { sheet.new.cells.ghost_name ≡ sheet.old.cells.ghost_name }
+    ) -> Result<u32, Refusal>
+        ensures law { (k : Card) → FindersOf k self.now → MatchResult result
+            (λ count. CardRun R.Reading k requests.now count cells.old cells.new work.old work.new answers.old answers.new)
+            (Short (length requests.now) (length answers.old)) }
+        ensures refused { MatchResult result (λ _. length requests.now ≤ length answers.old) (λ _. (cells.new ≡ cells.old) × (work.new ≡ work.old) × (answers.new ≡ answers.old)) }
     {
-        for i in 0..requests.len() {
-            answers[i] = self.serve(sheet, &requests[i], work);
-        }
+        run_over_by(cells, requests, |method| self.by(*method), work, answers)
     }
-}
-
-// Lays out a sheet over the cells and makes the requests of it; answers the pass count.
-pub(crate) fn run_laid_out<R: Reading>(
-    card: &FinishedCard,
-    finders: &CardFinders,
-    cells: &mut [R],
-    requests: &[Request<Method>],
-    work: &mut [R],
-    answers: &mut [Answer<R>],
-) -> u32
-    requires room { length requests.now ≤ length answers.old }
-    requires finders { FindersOf (card_of card.now.table) finders.now }
-    ensures { CardRun R.Reading.weight R.Reading.size R.Reading.MAIN_UNIT R.Reading.SECOND_UNIT (card_of card.now.table) requests.now result cells.old cells.new work.old work.new answers.old answers.new }
-{
-    let mut sheet = Sheet::new(cells);
-    finders.run(&mut sheet, requests, work, answers);
-    sheet.passes()
 }

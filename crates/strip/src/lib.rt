@@ -10,7 +10,7 @@ ghost use Rattle.card_file.specs.FileRows.{RowsAsAdded};
 ghost use Rattle.card_file.specs.Files.{read_card_lem};
 ghost use Rattle.strip.specs.Strips.{BuiltRun, CardRun, FileRun, Short};
 
-use crate::finders::{CardFinders, run_laid_out};
+use crate::finders::CardFinders;
 use card::states::FinishedCard;
 use card_file::read::read_card;
 use card_list::requests::{Answer as CardAnswer, Request as CardRequest, build_card};
@@ -36,29 +36,28 @@ pub fn run_card<R: Reading>(
     answers: &mut [Answer<R>],
 ) -> Result<u32, Refusal>
     ensures law { MatchResult result
-        (λ count. CardRun R.Reading.weight R.Reading.size R.Reading.MAIN_UNIT R.Reading.SECOND_UNIT (card_of card.now.table) requests.now count cells.old cells.new work.old work.new answers.old answers.new)
+        (λ count. CardRun R.Reading (card_of card.now.table) requests.now count cells.old cells.new work.old work.new answers.old answers.new)
         (Short (length requests.now) (length answers.old)) }
     ensures refused { MatchResult result (λ _. length requests.now ≤ length answers.old) (λ _. (cells.new ≡ cells.old) × (work.new ≡ work.old) × (answers.new ≡ answers.old)) }
 {
-    if answers.len() < requests.len() {
-        return Err(Refusal::OutputShort);
-    }
-    Ok(run_with(card, cells, requests, work, answers))
+    run_with(card, cells, requests, work, answers)
 }
 
-// Runs the requests with the finders of the card.
-fn run_with<R: Reading>(
+// The requests have one lifetime, which the look-up of their finders names.
+fn run_with<'q, R: Reading>(
     card: &FinishedCard,
     cells: &mut [R],
-    requests: &[Request<Method>],
+    requests: &'q [Request<'q, Method>],
     work: &mut [R],
     answers: &mut [Answer<R>],
-) -> u32
-    requires { length requests.now ≤ length answers.old }
-    ensures { CardRun R.Reading.weight R.Reading.size R.Reading.MAIN_UNIT R.Reading.SECOND_UNIT (card_of card.now.table) requests.now result cells.old cells.new work.old work.new answers.old answers.new }
+) -> Result<u32, Refusal>
+    ensures law { MatchResult result
+        (λ count. CardRun R.Reading (card_of card.now.table) requests.now count cells.old cells.new work.old work.new answers.old answers.new)
+        (Short (length requests.now) (length answers.old)) }
+    ensures refused { MatchResult result (λ _. length requests.now ≤ length answers.old) (λ _. (cells.new ≡ cells.old) × (work.new ≡ work.old) × (answers.new ≡ answers.old)) }
 {
     let finders = CardFinders::new(card);
-    run_laid_out(card, &finders, cells, requests, work, answers)
+    finders.run(cells, requests, work, answers)
 }
 
 // Builds a card from a list of requests, writing an answer to each, and then does as `run_card` with that card.
@@ -73,7 +72,7 @@ pub fn run_built<R: Reading>(
     answers: &mut [Answer<R>],
 ) -> Result<u32, Refusal>
     ensures law { MatchResult result
-        (λ count. BuiltRun R.Reading.weight R.Reading.size R.Reading.MAIN_UNIT R.Reading.SECOND_UNIT len.places rows.now told.old told.new requests.now count cells.old cells.new work.old work.new answers.old answers.new)
+        (λ count. BuiltRun R.Reading len.places rows.now told.old told.new requests.now count cells.old cells.new work.old work.new answers.old answers.new)
         (λ e. Short (length requests.now) (length answers.old) e ⊎ Short (length rows.now) (length told.old) e) }
     ensures refused { MatchResult result
         (λ _. (length requests.now ≤ length answers.old) × (length rows.now ≤ length told.old))
@@ -92,7 +91,7 @@ fn build_and_run<R: Reading>(
     answers: &mut [Answer<R>],
 ) -> Result<u32, Refusal>
     ensures law { MatchResult result
-        (λ count. BuiltRun R.Reading.weight R.Reading.size R.Reading.MAIN_UNIT R.Reading.SECOND_UNIT len.places rows.now told.old told.new requests.now count cells.old cells.new work.old work.new answers.old answers.new)
+        (λ count. BuiltRun R.Reading len.places rows.now told.old told.new requests.now count cells.old cells.new work.old work.new answers.old answers.new)
         (λ e. Short (length requests.now) (length answers.old) e ⊎ Short (length rows.now) (length told.old) e) }
     ensures refused { MatchResult result
         (λ _. (length requests.now ≤ length answers.old) × (length rows.now ≤ length told.old))
@@ -101,10 +100,8 @@ fn build_and_run<R: Reading>(
     if answers.len() < requests.len() {
         return Err(Refusal::OutputShort);
     }
-    match build_card(len, rows, told) {
-        Ok(card) => Ok(run_with(&card, cells, requests, work, answers)),
-        Err(refusal) => Err(refusal),
-    }
+    let card = build_card(len, rows, told)?;
+    run_with(&card, cells, requests, work, answers)
 }
 
 // Reads a card from a file and then does as `run_card` with that card. A refused file gives its refusal, and nothing is done.
@@ -116,7 +113,7 @@ pub fn run_file<R: Reading>(
     answers: &mut [Answer<R>],
 ) -> Result<u32, Refusal>
     ensures law { MatchResult result
-        (λ count. FileRun R.Reading.weight R.Reading.size R.Reading.MAIN_UNIT R.Reading.SECOND_UNIT file.now requests.now count cells.old cells.new work.old work.new answers.old answers.new)
+        (λ count. FileRun R.Reading file.now requests.now count cells.old cells.new work.old work.new answers.old answers.new)
         (λ e. Short (length requests.now) (length answers.old) e ⊎ ((length requests.now ≤ length answers.old) × (read_card_lem file.now ≡ Err e))) }
     ensures rows { RowsAsAdded file.now }
     ensures refused { MatchResult result (λ _. length requests.now ≤ length answers.old) (λ _. (cells.new ≡ cells.old) × (work.new ≡ work.old) × (answers.new ≡ answers.old)) }
@@ -132,7 +129,7 @@ fn read_and_run<R: Reading>(
     answers: &mut [Answer<R>],
 ) -> Result<u32, Refusal>
     ensures law { MatchResult result
-        (λ count. FileRun R.Reading.weight R.Reading.size R.Reading.MAIN_UNIT R.Reading.SECOND_UNIT file.now requests.now count cells.old cells.new work.old work.new answers.old answers.new)
+        (λ count. FileRun R.Reading file.now requests.now count cells.old cells.new work.old work.new answers.old answers.new)
         (λ e. Short (length requests.now) (length answers.old) e ⊎ ((length requests.now ≤ length answers.old) × (read_card_lem file.now ≡ Err e))) }
     ensures rows { RowsAsAdded file.now }
     ensures refused { MatchResult result (λ _. length requests.now ≤ length answers.old) (λ _. (cells.new ≡ cells.old) × (work.new ≡ work.old) × (answers.new ≡ answers.old)) }
@@ -142,8 +139,6 @@ fn read_and_run<R: Reading>(
     if answers.len() < requests.len() {
         return Err(Refusal::OutputShort);
     }
-    match read {
-        Ok(()) => Ok(run_with(&card, cells, requests, work, answers)),
-        Err(refusal) => Err(refusal),
-    }
+    read?;
+    run_with(&card, cells, requests, work, answers)
 }

@@ -3,7 +3,6 @@ use Rattle.played.proofs.search_played.Goals as goal
 
 pub returns : goal.returns
 returns g c = record {
-  law = c.search.ensures.law;
-  again = again _ _ _ _ _ _ _ _ _ _ _ _ g.met.R.Reading.main_unit c.search.ensures.law;
-  named = c.search.ensures.named;
+  law = c.search.ensures;
+  again = again _ _ _ _ _ _ _ _ g.met.R.Reading.main_unit c.search.ensures;
 }

@@ -4,13 +4,13 @@ use Rattle.card.specs.Tables.{card_of}
 use Rattle.played.proofs.Writes.{encoded_ok, written}
 use Rattle.played.proofs.write_message.Goals as goal
 
-pub returns-in-Ok : goal.returns-in-Ok
-returns-in-Ok c =
+pub returns : goal.returns
+returns c =
     let n = c.places-n.result in
     let xs = c.args.samples.now in
     let ys = c.write_digits.new.samples in
     let e = c.places-n.ensures.value ∙ c.word_length.ensures.value in
-    let w = encoded_ok (card_of c.args.card.now.table) c.args.message c.in-Ok.word c.in-Ok.ensures.answer in
+    let w = encoded_ok (card_of c.args.card.now.table) c.args.message c.in_ok-word.word c.in_ok-word.ensures.answer in
     let room = c.if-samples-n.false in
     let l : length ys ≡ n = c.write_digits.auto.samples ∙ length-take _ xs ∙ omega arith in
     record {
@@ -19,5 +19,5 @@ returns-in-Ok c =
         too_large = λ a b. let lt = w.0 in absurd (omega arith);
         taken = λ a b. ap (λ k. Ok k) e;
       };
-      written = written _ c.args.message c.args.levels n c.in-Ok.word xs ys e room l w.1 c.write_digits.ensures;
+      written = written _ c.args.message c.args.levels n c.in_ok-word.word xs ys e room l w.1 c.write_digits.ensures;
     }

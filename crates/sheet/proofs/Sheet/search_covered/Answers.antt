@@ -1,28 +1,20 @@
-use Rattle.std.proofs.Common.{refl, subst, MatchResult}
-use Rattle.finder.specs.Search.{Answered, Refused}
+use Rattle.std.proofs.Common.{◌-◌, refl, subst, arith}
 use Rattle.sheet.proofs.Books.{not_moved}
-use Rattle.sheet.proofs.Searches.{searched}
+use Rattle.sheet.proofs.Searches.{Searched, searched}
 use Rattle.sheet.proofs.Fronts.{part_is, put_back}
 use Rattle.sheet.proofs.Sheet.search_covered.Goals as goal
 
 pub returns : goal.returns
 returns g c =
-    let m = g.R.Reading in
     let t = c.args.self.now in
-    let f = g.F.Finder in
-    let w = c.args.finder.now in
+    let n = c.covering-n.result - 0 in
     let work = c.args.work.now in
+    let after = c.search.new.work in
     let r = c.search.result in
-    let same = put_back t.cells.now c.search.new.word c.covering-n.result c.search.ensures.same in
-    let a = subst (λ xs. MatchResult r
-    (λ x. Answered m.weight m.size (f.span w) (f.rows w) (f.need w) xs work c.search.new.work x.message x.reading)
-    (λ e. Refused m.size (f.span w) (f.need w) xs work c.search.new.work e))
-    (part_is t.cells.now _ c.covering-n.ensures) c.search.ensures.answer in
+    let cells = put_back t.cells.now c.search.new.word n c.search.ensures.same in
+    let a = subst (λ xs. Searched g.R.Reading g.F.Finder c.args.finder.now xs work after r) (part_is t.cells.now n (omega (arith, c.covering-n.ensures))) c.search.ensures.answer in
     record {
-      law = record {
-        book = λ h st. (not_moved _ _ _ _ h t _ (record { cells = same; passes = refl }) st, searched _ _ _ _ h t _ _ _ work _ r a st);
-        cells = a;
-        same = record { cells = same; passes = refl };
-      };
-      named = refl;
+      book = λ h st. (not_moved _ h t _ (record { named = refl; cells = cells; passes = refl }) st, searched _ _ _ h t work after r a st);
+      cells = a;
+      same = record { named = refl; cells = cells; passes = refl };
     }

@@ -1,4 +1,3 @@
-use Rattle.std.proofs.Common.{◌∙◌}
 use Rattle.sheet.proofs.Searches.{both_agree}
 use Rattle.sheet.proofs.Sheet.search_twice.Goals as goal
 
@@ -7,12 +6,9 @@ returns g c =
     let x = c.search_covered-first.ensures in
     let y = c.search_covered-second.ensures in
     record {
-      law = record {
-        between = c.search_covered-first.new.self;
-        left = c.search_covered-first.new.work;
-        by_first = x.law;
-        by_second = y.law;
-        agree = both_agree _ _ c.args.self.now c.search_covered-first.new.self _ _ _ _ _ _ _ _ _ _ _ x.law.same.cells x.law.cells y.law.cells;
-      };
-      named = y.named ∙ x.named;
+      between = c.search_covered-first.new.self;
+      left = c.search_covered-first.new.work;
+      by_first = x;
+      by_second = y;
+      agree = both_agree g.R.Reading g.A.Finder c.args.a.now g.B.Finder c.args.b.now c.args.self.now c.search_covered-first.new.self _ _ _ _ _ x.same.cells x.cells y.cells;
     }

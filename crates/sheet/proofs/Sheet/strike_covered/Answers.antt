@@ -6,20 +6,14 @@ use Rattle.sheet.proofs.Sheet.strike_covered.Goals as goal
 
 pub returns-then-place-covering : goal.returns-then-place-covering
 returns-then-place-covering g c = record {
-  law = record {
-    book = λ h st. not_struck _ _ _ _ h c.args.self.now c.args.place (omega arith) st;
-    cells = (omega arith, refl, record { cells = refl; passes = refl });
-    kept = record { long = refl; beyond = refl };
-  };
-  named = refl;
+  book = λ h st. not_struck _ h c.args.self.now c.args.place (omega arith) st;
+  cells = (omega arith, refl, record { named = refl; cells = refl; passes = refl });
+  kept = record { named = refl; long = refl; beyond = refl };
 }
 
 pub returns : goal.returns
 returns g c = record {
-  law = record {
-    book = λ h st. struck _ _ _ _ h c.args.self.now _ c.args.place c.blank.result refl refl (omega arith) c.blank.ensures st;
-    cells = (omega arith, refl, (c.blank.result, c.blank.ensures, refl));
-    kept = record { long = length-set _ _ _; beyond = drop-set-lt max_places c.args.self.now.cells.now c.args.place _ (omega arith) };
-  };
-  named = refl;
+  book = λ h st. struck _ h c.args.self.now _ c.args.place c.blank.result refl refl (omega arith) c.blank.ensures st;
+  cells = (omega arith, refl, (c.blank.result, c.blank.ensures, refl));
+  kept = record { named = refl; long = length-set _ _ _; beyond = drop-set-lt max_places c.args.self.now.cells.now c.args.place _ (omega arith) };
 }

@@ -1,7 +1,6 @@
 use Rattle.sheet.specs.Cells.{Added}
 use Rattle.sheet.proofs.cells.add_samples.Given as goal
 
-abbrev pub invariant-loop-i : goal.invariant-loop-i
-invariant-loop-i g l =
-    let m = g.R.Reading in
-    Added m.weight m.size m.MAIN_UNIT m.SECOND_UNIT l.samples l.i l.initial.cells l.cells
+abbrev pub invariant-loop-place : goal.invariant-loop-place
+invariant-loop-place g l =
+    Added g.R.Reading l.samples l.place l.initial.cells l.cells

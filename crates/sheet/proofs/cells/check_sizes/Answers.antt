@@ -6,29 +6,29 @@ use Rattle.sheet.proofs.cells.check_sizes.Goals as goal
 pub returns-then-not-takes : goal.returns-then-not-takes
 returns-then-not-takes g c =
     let m = g.R.Reading in
-    let i = c.loop-i.i in
+    let i = c.loop-place.place in
     let ss = c.args.samples.now in
     let xs = c.args.cells.now in
-    let on = c.loop-i-test.true in
+    let on = c.loop-place-test.true in
     record {
       place = i;
       on = on;
-      before = c.loop-i.invariant;
+      before = c.loop-place.invariant;
       here = λ x d.
-          subst (λ y. Overgrown m.weight m.size m.MAIN_UNIT m.SECOND_UNIT (get_or ss i x) y) (get_or_read xs i _ (omega arith) c.index-cells-i.is d)
-          (subst (λ y. Overgrown m.weight m.size m.MAIN_UNIT m.SECOND_UNIT y c.index-cells-i.result) (get_or_default ss i _ x on) (c.takes.ensures.no c.if-not-takes.true));
+          subst (λ y. Overgrown m (get_or ss i x) y) (get_or_read xs i _ (omega arith) c.index-cells-place.is d)
+          (subst (λ y. Overgrown m y c.index-cells-place.result) (get_or_default ss i _ x on) (c.takes.ensures.no c.if-not-takes.true));
       names = refl;
     }
 
-pub loop-i-preserved : goal.loop-i-preserved
-loop-i-preserved g c =
+pub loop-place-preserved : goal.loop-place-preserved
+loop-place-preserved g c =
     let m = g.R.Reading in
-    let i = c.loop-i.i in
+    let i = c.loop-place.place in
     let ss = c.args.samples.now in
     let xs = c.args.cells.now in
-    let on = c.loop-i-test.true in
-    λ k x d h. below_more (λ j. Fits m.weight m.size m.MAIN_UNIT m.SECOND_UNIT (get_or ss j x) (get_or xs j d)) i
-    (λ j hj. c.loop-i.invariant j x d hj)
-    (subst (λ y. Fits m.weight m.size m.MAIN_UNIT m.SECOND_UNIT (get_or ss i x) y) (get_or_read xs i _ (omega arith) c.index-cells-i.is d)
-    (subst (λ y. Fits m.weight m.size m.MAIN_UNIT m.SECOND_UNIT y c.index-cells-i.result) (get_or_default ss i _ x on) (c.takes.ensures.yes c.if-not-takes.false)))
+    let on = c.loop-place-test.true in
+    λ k x d h. below_more (λ j. Fits m (get_or ss j x) (get_or xs j d)) i
+    (λ j hj. c.loop-place.invariant j x d hj)
+    (subst (λ y. Fits m (get_or ss i x) y) (get_or_read xs i _ (omega arith) c.index-cells-place.is d)
+    (subst (λ y. Fits m y c.index-cells-place.result) (get_or_default ss i _ x on) (c.takes.ensures.yes c.if-not-takes.false)))
     k h

@@ -1,19 +1,9 @@
-use Rattle.std.proofs.Common.{[], length, rules}
-use Rattle.sheet.proofs.Runs.{ran_over, searches_agree}
+use Rattle.std.proofs.Common.{rules}
+use Rattle.sheet.proofs.Runs.{ran_over}
 use Rattle.sheet.proofs.run.run_laid_out.Goals as goal
 
 pub returns : goal.returns
-returns g c =
+returns g c = λ span rows need gives.
     let r = c.run.ensures in
     let w = c.new-sheet.ensures in
-    let o = ran_over _ _ _ _ _ _ _ _ _ _ c.args.cells.now _ c.new-sheet.result c.run.new.self _ w.long w.beyond r.kept (search rules) (r.law [] w.stands) in
-    let f = g.F.Finder in
-    record {
-      answered = o.2;
-      agree = searches_agree _ f.span f.rows f.need (length c.args.work.now) _ _ _ o.2;
-      counted = o.0;
-      totals = o.1;
-      beyond = o.3;
-      spared = r.spared;
-      rest = r.rest;
-    }
+    ran_over _ _ _ c.args.cells.now _ c.args.work.now _ c.new-sheet.result c.run.new.self _ _ w.stands w.long w.beyond r.kept (search rules) r.rest (r.law span rows need gives)

@@ -1,34 +1,13 @@
-use Rattle.std.proofs.Common.{◌≡◌, ◌+◌, ◌<◌, length, drop, ◌∙◌, subst, arith}
-use Rattle.std.proofs.lemmas.List.{drop-set-lt, get_or_default}
-use Rattle.sheet.specs.Runs.{Ran, Spared}
-use Rattle.sheet.proofs.Runs.{ran_more, spared_more, kept_then, drop_further}
-use Rattle.strip.specs.Finders.{need_by, rows_by, span_by}
+use Rattle.std.proofs.Common.{◌≡◌, ap, ◌∙◌, rules}
+use Rattle.strip.specs.Strips.{by_card}
+use Rattle.strip.specs.Finders.{own, finder_of}
 use Rattle.strip.proofs.finders.CardFinders.run.Goals as goal
 
-pub loop-i-preserved : goal.loop-i-preserved
-loop-i-preserved g c =
-    let v = c.loop-i.invariant in
-    let i = c.loop-i.i in
-    let law = c.serve.ensures.law in
-    let wi : i < length c.args.requests.now = omega arith in
-    let wa : i < length c.loop-i.answers = omega arith in (
-      λ h st. ran_more _ _ _ _ _ _ _ _ _ h i c.args.sheet.now c.loop-i.sheet c.serve.new.sheet c.loop-i.answers _ _ _
-          c.loop-i.auto.work wi wa (get_or_default c.args.requests.now i _ _ wi) v.1.long law.book (v.0 h st),
-      kept_then v.1 law.kept,
-      spared_more (need_by c.args.self.now) c.args.requests.now i c.loop-i.answers _ c.serve.result _ _ _ wi wa (get_or_default c.args.requests.now i _ _ wi) law.spared v.2,
-      drop-set-lt (i + 1) c.loop-i.answers i _ (omega arith) ∙ drop_further i (i + 1) _ _ (omega arith) v.3,
-      c.serve.ensures.named ∙ v.4,
-    )
-
-pub returns : goal.returns
-returns g c =
-    let v = c.loop-i.invariant in
-    let e : c.loop-i.i ≡ length c.args.requests.now = omega arith in
-    let m = g.R.Reading in let f = c.args.self.now in
-    record {
-      law = λ h st. subst (λ n. Ran m.weight m.size m.MAIN_UNIT m.SECOND_UNIT (span_by f) (rows_by f) (need_by f) (length c.args.work.now) h c.args.requests.now n c.args.sheet.now c.loop-i.sheet c.loop-i.answers) e (v.0 h st);
-      kept = v.1;
-      spared = subst (λ n. Spared (need_by f) c.args.requests.now n c.loop-i.answers c.args.work.now c.loop-i.work) e v.2;
-      rest = subst (λ n. drop n c.loop-i.answers ≡ drop n c.args.answers.now) e v.3;
-      named = v.4;
-    }
+pub returns-clause-law : goal.returns-clause-law
+returns-clause-law g c = λ k of.
+    let f = c.args.self.now in
+    c.run_over_by.ensures.law (by_card k).span (by_card k).rows (by_card k).need (record {
+      span = λ n r p. let e : r.now ≡ finder_of f n.now = search rules in ap own.span e ∙ of.span n.now;
+      rows = λ n r p. let e : r.now ≡ finder_of f n.now = search rules in ap own.rows e ∙ of.rows n.now;
+      need = λ n r p. let e : r.now ≡ finder_of f n.now = search rules in ap own.need e ∙ of.need n.now;
+    })
