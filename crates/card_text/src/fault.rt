@@ -101,10 +101,7 @@ impl fmt::Display for Fault {
     fn fmt<W: fmt::Write>(&self, f: &mut fmt::Formatter<W>) -> fmt::Result {
         match *self {
             Fault::InText { fault } => write!(f, "{fault}"),
-            Fault::Refused { refusal } => {
-                let number = refusal.number();
-                write!(f, "refusal {number}: {refusal}")
-            }
+            Fault::Refused { refusal } => write!(f, "{}", Problem::from(refusal)),
         }
     }
 }

@@ -22,19 +22,20 @@ pub fn read_text(bytes: &[u8], into: &mut FinishedCard) -> Result<(), TextFault>
     Ok(())
 }
 
-// The card that the lines of a text describe.
+// The card that the lines of a text describe. The lines are counted beside the loop, since a fault at the end needs the
+// number of the last.
 fn read_lines(bytes: &[u8]) -> Result<FinishedCard, TextFault>
     ensures answer { MatchResult result (λ k. Ok (card_of k.table) ≡ read_text_lem bytes.now) (λ e. Err e ≡ read_text_lem bytes.now) }
     ensures says { IfOk result (λ k. text_says bytes.now ≡ card_says (card_of k.table)) }
 {
     let mut draft = Draft::Unset;
-    let mut number = 0;
+    let mut count = 0;
     for line in bytes.split(|byte| *byte == NEWLINE) {
-        number += 1;
-        draft = read_line(draft, number, line)?;
+        count += 1;
+        draft = read_line(draft, count, line)?;
     }
     finish(draft).map_err(|problem| TextFault {
-        line: number,
+        line: count,
         problem,
     })
 }

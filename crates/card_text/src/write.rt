@@ -73,7 +73,8 @@ fn rows_size(section: Section, places: usize, rows: &[u64]) -> usize
     rows.len() * (word_of(section).len() + SPACE_SIZE + places + LINE_END)
 }
 
-// Writes bytes from `at` on, and tells where they end, as the writers below do too.
+// Writes bytes from `at` on, and tells where they end, as the writers below do too: the memory is lent, and the answer
+// is how many bytes were written.
 fn write_bytes(out: &mut [u8], at: usize, bytes: &[u8]) -> usize
     requires { at + length bytes.now ≤ length out.old }
     ensures end { result ≡ at + length bytes.now }
