@@ -31,10 +31,8 @@ fn bytes_of_e() -> Result<[u8; E_BYTES], Refusal> {
 // Whether the file is refused so, and the card that it was to fill is as it was.
 fn refused_with(bytes: &[u8], due: Refusal) -> Result<bool, Refusal> {
     let mut card = code_e()?;
-    match read_card(bytes, &mut card) {
-        Ok(()) => Ok(false),
-        Err(refusal) => Ok(refusal == due && same(&card, &code_e()?)),
-    }
+    let answer = read_card(bytes, &mut card);
+    Ok(answer == Err(due) && same(&card, &code_e()?))
 }
 
 // Every file that is shorter than code E's ends early.
@@ -49,8 +47,8 @@ pub(crate) fn truncations() -> Result<usize, Failure> {
 // The file of code E with one byte changed.
 fn changed(at: usize, byte: u8) -> Result<[u8; E_BYTES], Refusal> {
     let mut bytes = bytes_of_e()?;
-    if at < E_BYTES {
-        bytes[at] = byte;
+    if let Some(place) = bytes.get_mut(at) {
+        *place = byte;
     }
     Ok(bytes)
 }
@@ -95,15 +93,14 @@ fn damages() -> [(usize, u8, Refusal); 19] {
 
 // Tries each damaged file, and tells how many were tried.
 pub(crate) fn damaged() -> Result<usize, Failure> {
-    let mut tried = 0usize;
-    for (at, byte, due) in damages() {
+    let damages = damages();
+    for (at, byte, due) in damages {
         expect(refused_with(&changed(at, byte)?, due)?)?;
-        tried = tried.saturating_add(1);
     }
     expect(broken_group()?)?;
     expect(byte_too_many()?)?;
     expect(longest_length()?)?;
-    Ok(tried.saturating_add(2))
+    Ok(damages.len() + 2)
 }
 
 // Group rows 3, 6 and 9: the third breaks concurrence.
@@ -147,59 +144,38 @@ fn refused(refusal: Refusal) -> Answer {
 // How many requests are made.
 const REQUESTS: usize = 13;
 
-// Code E as a list of requests, with ones between that are refused.
-fn requests() -> [Request; REQUESTS] {
-    [
-        add(3),
-        add(6),
-        add(5),
-        add(9),
-        add(32),
-        Request::MoveOn,
-        add(12),
-        add(0),
-        Request::MoveOn,
-        add(17),
-        Request::MoveOn,
-        add(2),
-        Request::MoveOn,
-    ]
-}
-
-// What they are answered.
-fn due() -> [Answer; REQUESTS] {
+// Code E as a list of requests, with ones between that are refused, and what each is answered.
+fn requests() -> [(Request, Answer); REQUESTS] {
     let broken = Refusal::ConcurrenceBroken {
         section: Section::Group,
         index: 2,
     };
     [
-        Answer::Taken,
-        Answer::Taken,
-        refused(dependent(Section::Group, 2)),
-        refused(broken),
-        refused(beyond(Section::Group, 2)),
-        Answer::Moved,
-        Answer::Taken,
-        refused(dependent(Section::Transform, 1)),
-        Answer::Moved,
-        Answer::Taken,
-        Answer::Moved,
-        Answer::Closed,
-        Answer::Closed,
+        (add(3), Answer::Taken),
+        (add(6), Answer::Taken),
+        (add(5), refused(dependent(Section::Group, 2))),
+        (add(9), refused(broken)),
+        (add(32), refused(beyond(Section::Group, 2))),
+        (Request::MoveOn, Answer::Moved),
+        (add(12), Answer::Taken),
+        (add(0), refused(dependent(Section::Transform, 1))),
+        (Request::MoveOn, Answer::Moved),
+        (add(17), Answer::Taken),
+        (Request::MoveOn, Answer::Moved),
+        (add(2), Answer::Closed),
+        (Request::MoveOn, Answer::Closed),
     ]
 }
 
 // Runs the list, and once more with too little memory for the answers.
 pub(crate) fn own_list() -> Result<usize, Failure> {
+    let list = requests().map(|(request, _)| request);
+    let due = requests().map(|(_, answer)| answer);
     let mut answers = [Answer::Closed; 14];
-    let count = run_requests(WordLength::new(5)?, &requests(), &mut answers)?;
-    expect(count == REQUESTS)?;
-    for (i, answer) in due().iter().enumerate() {
-        expect(answers[i] == *answer)?;
-    }
+    let count = run_requests(WordLength::new(5)?, &list, &mut answers)?;
+    expect(count == REQUESTS && &answers[..REQUESTS] == due.as_slice())?;
     let mut few = [Answer::Closed; 12];
-    match run_requests(WordLength::new(5)?, &requests(), &mut few) {
-        Err(Refusal::OutputShort) => Ok(REQUESTS),
-        _ => Err(Failure::Differs),
-    }
+    let short = run_requests(WordLength::new(5)?, &list, &mut few);
+    expect(short == Err(Refusal::OutputShort))?;
+    Ok(REQUESTS)
 }

@@ -1,4 +1,5 @@
 use code::refusal::Refusal;
+use std::alloc::{AllocError, AllocFailed};
 use std::io;
 
 // Why the cases end early.
@@ -6,12 +7,25 @@ use std::io;
 pub enum Failure {
     Differs,
     Refused { refusal: Refusal },
+    Memory,
     Output { error: io::Error },
 }
 
 impl From<Refusal> for Failure {
     fn from(refusal: Refusal) -> Failure {
         Failure::Refused { refusal }
+    }
+}
+
+impl From<AllocError> for Failure {
+    fn from(_error: AllocError) -> Failure {
+        Failure::Memory
+    }
+}
+
+impl<T: Drop> From<AllocFailed<T>> for Failure {
+    fn from(_error: AllocFailed<T>) -> Failure {
+        Failure::Memory
     }
 }
 

@@ -10,28 +10,13 @@ use code::refusal::Section;
 use codes::Code;
 use failure::{Failure, expect};
 
-fn codes_of_the_literature(rt: &HostRuntime) -> Result<(), Failure> {
-    for code in [
-        codes::golay(),
-        codes::extended_golay(),
-        codes::hamming(),
-        codes::bch_15_7(),
-        codes::bch_21_12(),
-        codes::bch_31_11(),
-        codes::first_order_reed_muller(),
-        codes::second_order_reed_muller(),
-    ] {
-        show_code(rt, &code)?;
-    }
-    Ok(())
-}
-
 fn show_code(rt: &HostRuntime, code: &Code) -> Result<(), Failure> {
-    let card = codes::build(code)?;
-    expect(card.rows().len() == code.k)?;
+    let rows = code.rows(rt.alloc())?;
+    let card = codes::build(code.n, rows.as_slice())?;
+    let (name, n, k) = (code.name, code.n, rows.len());
+    expect(card.rows().len() == k)?;
     expect(trips::reads_back(&card)?)?;
     expect(trips::encodes_apart(&card)?)?;
-    let (name, n, k) = (code.name, code.n, code.k);
     let group = card.section_rows(Section::Group).len();
     let transform = card.section_rows(Section::Transform).len();
     let coset = card.section_rows(Section::Coset).len();
@@ -42,13 +27,15 @@ fn show_code(rt: &HostRuntime, code: &Code) -> Result<(), Failure> {
 }
 
 fn run(rt: &HostRuntime) -> Result<(), Failure> {
-    codes_of_the_literature(rt)?;
-    let seen = random::dependence()?;
+    for code in codes::CODES {
+        show_code(rt, &code)?;
+    }
+    let seen = random::dependence(rt.alloc())?;
     let (rows, dependent) = (seen.rows, seen.refused);
     println!(rt;
         "dependence beside a search over all choices: {rows} rows, {dependent} of them dependent, all answers the same"
     )?;
-    let seen = random::concurrence()?;
+    let seen = random::concurrence(rt.alloc())?;
     let (rows, broken) = (seen.rows, seen.refused);
     println!(rt;
         "concurrence beside a count at every place: {rows} rows, {broken} of them breaking it, all answers the same"

@@ -38,8 +38,5 @@ pub(crate) fn encodes_apart(card: &FinishedCard) -> Result<bool, Refusal> {
             }
         }
     }
-    match card.encode(1u64 << k) {
-        Err(Refusal::MessageTooLarge) => Ok(card.encode(0)? == 0),
-        _ => Ok(false),
-    }
+    Ok(card.encode(1u64 << k) == Err(Refusal::MessageTooLarge) && card.encode(0)? == 0)
 }

@@ -1,112 +1,50 @@
 -- A text read line by line.
-use Rattle.std.proofs.Common.{◌≡◌, ℕ, ◌+◌, ◌-◌, ◌<◌, ◌≤◌, Bool, false, cond, List, [], ◌∷◌, ◌++◌, length, get_or, take, drop, Ok, Err, Result, sym, ap, ◌∙◌, ap₂, arith}
-use Rattle.std.proofs.lemmas.List.{at_drop_more, at_drop_all, length-drop, take_more, get_or-drop}
-use Rattle.std.proofs.lemmas.Bool.{eq-eqb, ne_eqb}
+use Rattle.std.proofs.Common.{◌≡◌, ℕ, ◌+◌, ◌-◌, ◌<◌, List, length, get_or, drop, Ok, Err, Result, IfOk, MatchResult, sym, ap, ◌∙◌, arith}
+use Rattle.std.proofs.lemmas.List.{at_drop_more, at_drop_all}
 use Rattle.card.specs.Cards.{Card}
-use Rattle.card_text.specs.declared.fault.Problem.{Problem}
+use Rattle.card.specs.Tables.{card_of}
+use Rattle.card.specs.declared.states.FinishedCard.{FinishedCard}
 use Rattle.card_text.specs.declared.fault.TextFault.{TextFault}
-use Rattle.card_text.specs.declared.line.Keyword.{Keyword}
-use Rattle.card_text.specs.Lines.{keyword_of_lem, lines_from, passed_over, trimmed, word_length_lem}
-use Rattle.card_text.specs.Drafts.{Stage, entry_read, finished, in_line, line_read, lines_read, on_ok}
+use Rattle.card_text.specs.Sayings.{card_says, text_says}
+use Rattle.card_text.specs.Lines.{lines_of, trimmed}
+use Rattle.card_text.specs.Drafts.{Stage, finished, in_line, line_read, lines_read, on_ok, read_text_lem}
+use Rattle.card_text.proofs.Said.{text_says-read}
 
--- ---- one line
+-- n lines were read, and the lines after them, read from stage d on, make the text
+pub record Left (bytes : List ℕ) (i n : ℕ) (d : Stage) : Type 0 where
+  pub counted : n ≡ i
+  pub reads : lines_read d (i + 1) (drop i (lines_of bytes)) ≡ read_text_lem bytes
 
--- a line that is not passed over, by its word and the rest
-pub line_is : (d : Stage) (line rest : List ℕ) (w : ℕ) (q : Keyword) → passed_over line ≡ false → w ≡ word_length_lem line
-    → rest ≡ drop (w + 1) line → q ≡ keyword_of_lem (take (w - 0) line) → entry_read q d rest ≡ line_read d line
-line_is d line rest w q p ew er eq =
-    let z : w - 0 ≡ word_length_lem line = omega arith in
-    let f : Bool → Result Stage Problem = λ b. cond b (Ok d) (entry_read (keyword_of_lem (take (word_length_lem line) line)) d (drop (word_length_lem line + 1) line)) in
-    ap₂ (λ (k : Keyword) (r : List ℕ). entry_read k d r) (eq ∙ ap (λ (m : ℕ). keyword_of_lem (take m line)) z) (er ∙ ap (λ (m : ℕ). drop (m + 1) line) ew)
-    ∙ sym (ap f p)
+module _ (bytes line : List ℕ) (i n : ℕ) (d : Stage) (inside : i < length (lines_of bytes)) (is : line ≡ get_or (lines_of bytes) i line) (l : Left bytes i n d) where
+  next_read : on_ok (in_line (n + 1) (line_read d (trimmed line))) (λ e. lines_read e (i + 1 + 1) (drop (i + 1) (lines_of bytes))) ≡ read_text_lem bytes
+  next_read =
+      let rest = drop (i + 1) (lines_of bytes) in
+      ap (λ (m : ℕ). on_ok (in_line (m + 1) (line_read d (trimmed line))) (λ e. lines_read e (i + 1 + 1) rest)) l.counted
+      ∙ ap (λ (x : List ℕ). on_ok (in_line (i + 1) (line_read d (trimmed x))) (λ e. lines_read e (i + 1 + 1) rest)) is
+      ∙ sym (at_drop_more (lines_read d (i + 1)) (lines_of bytes) i line inside) ∙ l.reads
 
--- ---- where lines end
+  -- the next line leads to stage e
+  pub left_more : (e : Stage) → Ok e ≡ in_line (n + 1) (line_read d (trimmed line)) → Left bytes (i + 1) (n + 1) e
+  left_more e ok = record {
+    counted = omega (arith, l.counted);
+    reads = ap (λ (r : Result Stage TextFault). on_ok r (λ q. lines_read q (i + 1 + 1) (drop (i + 1) (lines_of bytes)))) ok ∙ next_read;
+  }
 
-module _ (bytes : List ℕ) (i : ℕ) where
-  pub lines_break : (line : List ℕ) → i < length bytes → get_or bytes i 0 ≡ 10
-      → lines_from line (drop i bytes) ≡ line ∷ lines_from [] (drop (i + 1) bytes)
-  lines_break line h e =
-      at_drop_more (lines_from line) bytes i 0 h
-      ∙ ap (λ (b : Bool). cond b (line ∷ lines_from [] (drop (i + 1) bytes)) (lines_from (line ++ get_or bytes i 0 ∷ []) (drop (i + 1) bytes))) (eq-eqb (get_or bytes i 0) 10 e)
+  -- the next line has a fault, which ends the reading
+  pub left_fault : (f : TextFault) → Err f ≡ in_line (n + 1) (line_read d (trimmed line)) → Err f ≡ read_text_lem bytes
+  left_fault f bad = ap (λ (r : Result Stage TextFault). on_ok r (λ q. lines_read q (i + 1 + 1) (drop (i + 1) (lines_of bytes)))) bad ∙ next_read
 
-  pub lines_more : (line : List ℕ) → i < length bytes → (get_or bytes i 0 ≡ 10 → ⊥)
-      → lines_from line (drop i bytes) ≡ lines_from (line ++ get_or bytes i 0 ∷ []) (drop (i + 1) bytes)
-  lines_more line h e =
-      at_drop_more (lines_from line) bytes i 0 h
-      ∙ ap (λ (b : Bool). cond b (line ∷ lines_from [] (drop (i + 1) bytes)) (lines_from (line ++ get_or bytes i 0 ∷ []) (drop (i + 1) bytes))) (ne_eqb (get_or bytes i 0) 10 e)
+-- no line is left
+pub left_none : (bytes : List ℕ) (i n : ℕ) (d : Stage) → i ≡ length (lines_of bytes) → Left bytes i n d → in_line n (finished d) ≡ read_text_lem bytes
+left_none bytes i n d all l =
+    let last : n ≡ i + 1 - 1 = omega (arith, l.counted) in
+    ap (λ (m : ℕ). in_line m (finished d)) last ∙ sym (at_drop_all (lines_read d (i + 1)) (lines_of bytes) i (omega (arith, all))) ∙ l.reads
 
-  -- the line so far, with one byte more
-  pub part_more : (s : ℕ) → s ≤ i → i < length bytes → take (i + 1 - s) (drop s bytes) ≡ take (i - s) (drop s bytes) ++ get_or bytes i 0 ∷ []
-  part_more s le lt =
-      let m : i + 1 - s ≡ i - s + 1 = omega arith in
-      let at : s + (i - s) ≡ i = omega arith in
-      let inside : i - s < length (drop s bytes) = simp length-drop (omega arith) in
-      ap (λ (j : ℕ). take j (drop s bytes)) m
-      ∙ take_more (drop s bytes) (i - s) 0 inside
-      ∙ ap (λ (b : ℕ). take (i - s) (drop s bytes) ++ b ∷ []) (get_or-drop s bytes (i - s) 0 ∙ ap (λ (j : ℕ). get_or bytes j 0) at)
+-- r is a card, or the fault, that the reading x gives
+abbrev pub Described : Result FinishedCard TextFault → Result Card TextFault → Type 0
+Described r x = MatchResult r (λ k. Ok (card_of k.table) ≡ x) (λ e. Err e ≡ x)
 
-  -- the rest of a text whose line so far is its bytes from s to i
-  pub record Left (s n : ℕ) (d : Stage) (whole : Result Card TextFault) : Type 0 where
-    pub begun : s ≤ i
-    pub counted : n ≤ i + 1
-    pub reads : lines_read d n (lines_from (take (i - s) (drop s bytes)) (drop i bytes)) ≡ whole
-
--- ---- one byte more
-
-pub left_more : (bytes : List ℕ) (i s n : ℕ) (d : Stage) (whole : Result Card TextFault) → i < length bytes → (get_or bytes i 0 ≡ 10 → ⊥)
-    → Left bytes i s n d whole → Left bytes (i + 1) s n d whole
-left_more bytes i s n d whole lt e l = record {
-  begun = omega (arith, l.begun);
-  counted = omega (arith, l.counted);
-  reads = ap (λ (x : List ℕ). lines_read d n (lines_from x (drop (i + 1) bytes))) (part_more bytes i s l.begun lt)
-      ∙ sym (ap (lines_read d n) (lines_more bytes i (take (i - s) (drop s bytes)) lt e)) ∙ l.reads;
-}
-
--- a line that ends is read
-pub left_break : (bytes : List ℕ) (i s n : ℕ) (d e : Stage) (whole : Result Card TextFault) → i < length bytes → get_or bytes i 0 ≡ 10
-    → Ok e ≡ in_line n (line_read d (trimmed (take (i - s) (drop s bytes)))) → Left bytes i s n d whole → Left bytes (i + 1) (i + 1) (n + 1) e whole
-left_break bytes i s n d e whole lt ten ok l =
-    let line = take (i - s) (drop s bytes) in
-    let none : i + 1 - (i + 1) ≡ 0 = omega arith in
-    let rest = lines_from [] (drop (i + 1) bytes) in
-    record {
-      begun = omega arith;
-      counted = omega (arith, l.counted);
-      reads = ap (λ (m : ℕ). lines_read e (n + 1) (lines_from (take m (drop (i + 1) bytes)) (drop (i + 1) bytes))) none
-          ∙ ap (λ (r : Result Stage TextFault). on_ok r (λ q. lines_read q (n + 1) rest)) ok
-          ∙ sym (ap (lines_read d n) (lines_break bytes i line lt ten)) ∙ l.reads;
-    }
-
--- a line with a fault ends the reading
-pub left_fault : (bytes : List ℕ) (i s n : ℕ) (d : Stage) (f : TextFault) (whole : Result Card TextFault) → i < length bytes → get_or bytes i 0 ≡ 10
-    → Err f ≡ in_line n (line_read d (trimmed (take (i - s) (drop s bytes)))) → Left bytes i s n d whole → Err f ≡ whole
-left_fault bytes i s n d f whole lt ten bad l =
-    let line = take (i - s) (drop s bytes) in
-    let rest = lines_from [] (drop (i + 1) bytes) in
-    ap (λ (r : Result Stage TextFault). on_ok r (λ q. lines_read q (n + 1) rest)) bad
-    ∙ sym (ap (lines_read d n) (lines_break bytes i line lt ten)) ∙ l.reads
-
--- ---- the last line
-
-module _ (bytes : List ℕ) (i s n : ℕ) (d : Stage) (whole : Result Card TextFault) (all : i ≡ length bytes) (l : Left bytes i s n d whole) where
-  last_read : Result Stage TextFault
-  last_read = in_line n (line_read d (trimmed (take (length bytes - s) (drop s bytes))))
-
-  -- what the last line leaves is the whole
-  last_whole : on_ok last_read (λ e. in_line n (finished e)) ≡ whole
-  unfolding last_read
-  last_whole =
-      let line = take (i - s) (drop s bytes) in
-      let back : n + 1 - 1 ≡ n = omega arith in
-      ap (λ (j : ℕ). on_ok (in_line n (line_read d (trimmed (take (j - s) (drop s bytes))))) (λ e. in_line n (finished e))) (sym all)
-      ∙ ap (λ (m : ℕ). on_ok (in_line n (line_read d (trimmed line))) (λ e. in_line m (finished e))) (sym back)
-      ∙ sym (ap (lines_read d n) (at_drop_all (lines_from line) bytes i (omega arith))) ∙ l.reads
-
-  pub last_fault : (f : TextFault) → Err f ≡ in_line n (line_read d (trimmed (take (length bytes - s) (drop s bytes)))) → Err f ≡ whole
-  unfolding last_read
-  last_fault f bad = ap (λ (r : Result Stage TextFault). on_ok r (λ e. in_line n (finished e))) bad ∙ last_whole
-
-  pub last_done : (e : Stage) (r : Result Card Problem) → Ok e ≡ in_line n (line_read d (trimmed (take (length bytes - s) (drop s bytes)))) → r ≡ finished e
-      → in_line n r ≡ whole
-  unfolding last_read
-  last_done e r ok done = ap (in_line n) done ∙ ap (λ (q : Result Stage TextFault). on_ok q (λ x. in_line n (finished x))) ok ∙ last_whole
+-- a card that a text is read as says what the text does
+pub says_described : (bytes : List ℕ) (r : Result FinishedCard TextFault) → Described r (read_text_lem bytes) → IfOk r (λ k. text_says bytes ≡ card_says (card_of k.table))
+says_described bytes (Ok k) h = text_says-read bytes (card_of k.table) (sym h)
+says_described bytes (Err f) h = tt

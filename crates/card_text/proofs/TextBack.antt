@@ -1,7 +1,10 @@
 -- A card that is written as text is read back the same.
-use Rattle.std.proofs.Common.{◌≡◌, ℕ, zero, suc, ◌+◌, ◌-◌, ◌*◌, ◌/◌, ◌%◌, ◌^◌, ◌<◌, ◌≤◌, Bool, true, false, cond, ◌&&◌, eqb, ltb, leb, List, [], ◌∷◌, ◌++◌, length, get_or, Some, None, Ok, Err, codes, Option, Result, sym, refl, ap, ◌∙◌, ap₂, inl, inr, append_assoc, div-add-mod', arith}
+use Rattle.std.proofs.Common.{◌≡◌, ℕ, zero, suc, ◌+◌, ◌-◌, ◌*◌, ◌/◌, ◌%◌, ◌^◌, ◌<◌, ◌≤◌, Bool, true, false, cond, ◌&&◌, eqb, ltb, leb, List, [], ◌∷◌, ◌++◌, length, get_or, take, Some, None, Ok, Err, codes, Option, Result, sym, refl, ap, ◌∙◌, ap₂, inl, inr, append_assoc, div-add-mod', arith}
 use native.Mathlib.Nat.{two-pow-succ}
 use Rattle.std.proofs.lemmas.List.{append-nil, get_or_past}
+use Rattle.std.proofs.lemmas.List.Elements.{All-from_get_or}
+use Rattle.std.proofs.lemmas.List.Splits.{slice_split_at}
+use Rattle.std.specs.List.{All}
 use Rattle.std.proofs.lemmas.Bool.{and_from, and_parts, cases_lt, eq-eqb, le-leb, le-ltb, lt-ltb, ltb-true, ne_eqb}
 use Rattle.code.specs.declared.refusal.Section.{Section}
 use Rattle.code.specs.declared.refusal.Section.TheVariants.{Group, Transform, Coset}
@@ -15,10 +18,9 @@ use Rattle.card_file.proofs.LetIn.{accepts, with_rows, with_group, with_transfor
 use Rattle.card_text.specs.declared.fault.Problem.{Problem}
 use Rattle.card_text.specs.declared.fault.Problem.TheVariants.{DigitCount, Refused, SectionClosed}
 use Rattle.card_text.specs.declared.fault.TextFault.{TextFault}
-use Rattle.card_text.specs.Lines.{binary_row, decimal_of_lem, first_odd_lem, is_binary_lem, lines_from, row_of, row_read, trimmed}
+use Rattle.card_text.specs.Lines.{binary_row, decimal_of_lem, first_odd_lem, is_binary_lem, lines_of, row_of, row_read, trimmed}
 use Rattle.card_text.specs.Drafts.{Stage, unset, taking, in_line, line_read, lines_read, on_ok, rank, read_text_lem, row_added, started, told}
 use Rattle.card_text.specs.Texts.{decimal_text, digits_of, label_of, length_line, row_line, section_text, text_of}
-use Rattle.card_text.proofs.Steps.{no_return}
 use Rattle.card_text.proofs.Writings.{digits_length}
 
 -- ---- lines of bytes above those that end lines
@@ -42,29 +44,25 @@ plain_at (b ∷ bs) (suc i) p h = plain_at bs i (and_parts (ltb 13 b) (plain bs)
 
 plain-trimmed : (line : List ℕ) → plain line ≡ true → trimmed line ≡ line
 plain-trimmed line p =
-    no_return line (λ e.
-    elim (cases_lt 0 (length line)) [
+    let last = get_or line (length line - 1) 0 in
+    let other : last ≡ 13 → ⊥ = λ e. elim (cases_lt 0 (length line)) [
       | inl h ↦ omega (arith, e, plain_at line (length line - 1) p (omega arith))
       | inr h ↦ omega (arith, e, get_or_past line (length line - 1) 0 (omega arith))
-    ])
+    ] in
+    ap (λ (b : Bool). cond b (take (length line - 1) line) line) (ne_eqb last 13 other)
 
-plain_lines : (first line rest : List ℕ) → plain line ≡ true → lines_from first (line ++ 10 ∷ rest) ≡ (first ++ line) ∷ lines_from [] rest
-unfolding plain
-plain_lines first [] rest p = ap (λ (l : List ℕ). l ∷ lines_from [] rest) (sym (append-nil first))
-plain_lines first (b ∷ bs) rest p =
-    let (a, q) = and_parts (ltb 13 b) (plain bs) p in
-    let low = ltb-true 13 b a in
-    let f : eqb b 10 ≡ false = ne_eqb b 10 (λ e. omega arith) in
-    ap (λ (t : Bool). cond t (first ∷ lines_from [] (bs ++ 10 ∷ rest)) (lines_from (first ++ b ∷ []) (bs ++ 10 ∷ rest))) f
-    ∙ plain_lines (first ++ b ∷ []) bs rest q
-    ∙ ap (λ (l : List ℕ). l ∷ lines_from [] rest) (append_assoc first (b ∷ []) bs)
+plain_all : (line : List ℕ) → plain line ≡ true → All (λ b. eqb b 10 ≡ false) line
+plain_all line p = All-from_get_or (λ b. eqb b 10 ≡ false) line 0 (λ i h. ne_eqb (get_or line i 0) 10 (λ e. omega (arith, e, plain_at line i p h)))
+
+plain_lines : (line rest : List ℕ) → plain line ≡ true → lines_of (line ++ 10 ∷ rest) ≡ line ∷ lines_of rest
+plain_lines line rest p = slice_split_at (λ b. eqb b 10) line 10 rest (plain_all line p) refl
 
 -- one line of a text
 read_one : (d e : Stage) (i : ℕ) (line rest : List ℕ) → plain line ≡ true → line_read d line ≡ Ok e
-    → lines_read d i (lines_from [] (line ++ 10 ∷ rest)) ≡ lines_read e (i + 1) (lines_from [] rest)
+    → lines_read d i (lines_of (line ++ 10 ∷ rest)) ≡ lines_read e (i + 1) (lines_of rest)
 read_one d e i line rest p ok =
-    let next : Stage → Result Card TextFault = λ q. lines_read q (i + 1) (lines_from [] rest) in
-    ap (lines_read d i) (plain_lines [] line rest p)
+    let next : Stage → Result Card TextFault = λ q. lines_read q (i + 1) (lines_of rest) in
+    ap (lines_read d i) (plain_lines line rest p)
     ∙ ap (λ (l : List ℕ). on_ok (in_line i (line_read d l)) next) (plain-trimmed line p)
     ∙ ap (λ (r : Result Stage Problem). on_ok (in_line i r) next) ok
 
@@ -134,21 +132,21 @@ last_rank o s [] h = h
 last_rank o s (r ∷ rs) h = last_rank s s rs (omega arith)
 
 section_back : (n : ℕ) (s : Section) (rows : List ℕ) (o : Section) (k : Card) (i : ℕ) (rest : List ℕ) → rank o ≤ rank s → Within n rows → accepts s k rows
-    → lines_read (taking n o k) i (lines_from [] (section_text s n rows ++ rest))
-    ≡ lines_read (taking n (last_open o s rows) (with_rows k s rows)) (i + length rows) (lines_from [] rest)
+    → lines_read (taking n o k) i (lines_of (section_text s n rows ++ rest))
+    ≡ lines_read (taking n (last_open o s rows) (with_rows k s rows)) (i + length rows) (lines_of rest)
 unfolding last_open accepts with_rows
 section_back n s [] o k i rest le w h =
     let e : i ≡ i + 0 = omega arith in
-    ap (λ (m : ℕ). lines_read (taking n o k) m (lines_from [] rest)) e
+    ap (λ (m : ℕ). lines_read (taking n o k) m (lines_of rest)) e
 section_back n s (r ∷ rs) o k i rest le w (v, small, h) =
     let line = label_of s ++ digits_of n r in
     let more = section_text s n rs ++ rest in
     let sum : i + 1 + length rs ≡ i + suc (length rs) = omega arith in
-    ap (λ (l : List ℕ). lines_read (taking n o k) i (lines_from [] l)) (append_assoc (row_line s n r) (section_text s n rs) rest ∙ row_line-append n s r more)
+    ap (λ (l : List ℕ). lines_read (taking n o k) i (lines_of l)) (append_assoc (row_line s n r) (section_text s n rs) rest ∙ row_line-append n s r more)
     ∙ read_one (taking n o k) (taking n s (pushed k s r)) i line more (plain-append (label_of s) (digits_of n r) (label_plain s) (digits_plain n r))
     (label_read s (taking n o k) (digits_of n r) ∙ row_added_ok n s o k r le (w 0 (omega arith)) v)
     ∙ section_back n s rs s (pushed k s r) (i + 1) rest (omega arith) (λ j l. w (suc j) (omega arith)) h
-    ∙ ap (λ (m : ℕ). lines_read (taking n (last_open s s rs) (with_rows (pushed k s r) s rs)) m (lines_from [] rest)) sum
+    ∙ ap (λ (m : ℕ). lines_read (taking n (last_open s s rs) (with_rows (pushed k s r) s rs)) m (lines_of rest)) sum
 
 -- ---- the line of the length
 
@@ -216,12 +214,12 @@ text_back k l =
     let le₂ : rank o₂ ≤ 2 = omega (arith, last_rank o₁ Transform t le₁) in
     let i₁ = 2 + length g in
     let i₂ = i₁ + length t in
-    ap (λ (b : List ℕ). lines_read unset 1 (lines_from [] b)) (length_line-append n rest)
+    ap (λ (b : List ℕ). lines_read unset 1 (lines_of b)) (length_line-append n rest)
     ∙ read_one unset (taking n Group (blank n)) 1 (codes "length " ++ decimal_text n) rest (plain-append (codes "length ") (decimal_text n) word_plain (decimal_plain n)) (length_back n l.sized)
     ∙ section_back n Group g Group (blank n) 2 (t_text ++ c_text) (omega arith) (within_left n g (t ++ c) w) rows.group
-    ∙ ap (λ (q : Card). lines_read (taking n o₁ q) i₁ (lines_from [] (t_text ++ c_text))) (with_group n [] g)
+    ∙ ap (λ (q : Card). lines_read (taking n o₁ q) i₁ (lines_of (t_text ++ c_text))) (with_group n [] g)
     ∙ section_back n Transform t o₁ k₁ i₁ c_text le₁ (within_left n t c w₂) rows.transform
-    ∙ ap (λ (q : Card). lines_read (taking n o₂ q) i₂ (lines_from [] c_text)) (with_transform n g [] t)
-    ∙ ap (λ (b : List ℕ). lines_read (taking n o₂ k₂) i₂ (lines_from [] b)) (sym (append-nil c_text))
+    ∙ ap (λ (q : Card). lines_read (taking n o₂ q) i₂ (lines_of c_text)) (with_transform n g [] t)
+    ∙ ap (λ (b : List ℕ). lines_read (taking n o₂ k₂) i₂ (lines_of b)) (sym (append-nil c_text))
     ∙ section_back n Coset c o₂ k₂ i₂ [] le₂ (within_right n t c w₂) rows.coset
-    ∙ ap (λ (q : Card). lines_read (taking n o₃ q) (i₂ + length c) (lines_from [] [])) (with_coset n g t [] c)
+    ∙ ap (λ (q : Card). lines_read (taking n o₃ q) (i₂ + length c) (lines_of [])) (with_coset n g t [] c)

@@ -1,6 +1,6 @@
 -- Bytes written one piece after the other.
 use Rattle.std.proofs.Common.{◌≡◌, ℕ, zero, suc, ◌+◌, ◌-◌, ◌*◌, ◌/◌, ◌%◌, ◌<◌, ◌≤◌, Bool, true, false, cond, ltb, List, [], ◌∷◌, ◌++◌, length, get_or, take, drop, set, sym, refl, ap, ◌∙◌, ap₂, append_assoc, add-one, arith, length-append}
-use Rattle.std.proofs.lemmas.List.{at_drop_more, take_at, drop_at, drop-drop, length-take-le, take-append-drop, set_split}
+use Rattle.std.proofs.lemmas.List.{append-nil, at_drop_more, drop_all, take_at, drop_at, drop-drop, length-take-le, take-append-drop, set_split}
 use Rattle.code.specs.declared.refusal.Section.{Section}
 use Rattle.code.specs.declared.refusal.Section.TheVariants.{Group, Transform, Coset}
 use Rattle.card_text.specs.Texts.{decimal_text, digits_of, label_of, length_line, over, row_line, section_text, text_of}
@@ -22,6 +22,13 @@ over-over at xs ys old h =
     ∙ append_assoc A xs (ys ++ drop (at + length (xs ++ ys)) old)
     ∙ ap (λ (l : List ℕ). A ++ l) (sym (append_assoc xs ys (drop (at + length (xs ++ ys)) old)))
 
+-- memory whose part from `at` to `end` became `part`
+pub over_part : (at end : ℕ) (part bytes old : List ℕ) → part ≡ bytes → end ≡ at + length bytes → take at old ++ (part ++ drop (end - at) (drop at old)) ≡ over at bytes old
+over_part at end part bytes old e f =
+    let size : end - at ≡ length bytes = omega (arith, f) in
+    ap₂ (λ (ys : List ℕ) (k : ℕ). take at old ++ (ys ++ drop k (drop at old))) e size
+    ∙ ap (λ (l : List ℕ). take at old ++ (bytes ++ l)) (drop-drop (length bytes) at old)
+
 -- one piece after another
 pub over_then : (at d : ℕ) (xs ys E o₁ o₂ : List ℕ) → at + length xs ≤ length E → d ≡ at + length xs → o₁ ≡ over at xs E → o₂ ≡ over d ys o₁
     → o₂ ≡ over at (xs ++ ys) E
@@ -40,6 +47,9 @@ over_none at old =
     let z : at + 0 ≡ at = omega arith in
     ap (λ (m : ℕ). take at old ++ drop m old) z ∙ take-append-drop at old
 
+pub over_all : (bytes old : List ℕ) → length bytes ≡ length old → over 0 bytes old ≡ bytes
+over_all bytes old e = ap (λ (l : List ℕ). bytes ++ l) (drop_all (0 + length bytes) old (omega (arith, e))) ∙ append-nil bytes
+
 pub over-set : (at b : ℕ) (old : List ℕ) → at < length old → set old at b ≡ over at (b ∷ []) old
 over-set at b old h = set_split old at b h ∙ ap (λ (m : ℕ). take at old ++ b ∷ drop m old) (sym (add-one at))
 
@@ -49,37 +59,31 @@ pub digits_length : (n row : ℕ) → length (digits_of n row) ≡ n
 digits_length zero row = refl
 digits_length (suc n) row = ap suc (digits_length n (row / 2))
 
-digits_more : (m row : ℕ) → 0 < m → digits_of m row ≡ (48 + row % 2) ∷ digits_of (m - 1) (row / 2)
-digits_more zero row h = absurd (omega arith)
-digits_more (suc m) row h =
-    let e : m ≡ suc m - 1 = omega arith in
-    ap (λ (k : ℕ). (48 + row % 2) ∷ digits_of k (row / 2)) e
-
--- so many digits are left to write, of what is left of the row, for the memory to be `done`
-pub record DigitsLeft (m rest p stop : ℕ) (out done : List ℕ) : Type 0 where
-  pub ends : p + m ≡ stop
-  pub writes : over p (digits_of m rest) out ≡ done
-
-pub digits_step : (m rest p stop : ℕ) (out done : List ℕ) → 0 < m → stop ≤ length out → DigitsLeft m rest p stop out done
-    → DigitsLeft (m - 1) (rest / 2) (p + 1) stop (set out p (48 + rest % 2)) done
-digits_step m rest p stop out done some room l =
+-- one digit more, of n, where p are written for the memory to be `done`
+pub digits_step : (p n rest : ℕ) (out done : List ℕ) → p < n → n ≤ length out → over p (digits_of (n - p) rest) out ≡ done
+    → over (p + 1) (digits_of (n - (p + 1)) (rest / 2)) (set out p (48 + rest % 2)) ≡ done
+digits_step p n rest out done some room h =
     let b = 48 + rest % 2 in
-    record {
-      ends = omega (arith, l.ends);
-      writes = ap (over (p + 1) (digits_of (m - 1) (rest / 2))) (over-set p b out (omega (arith, l.ends)))
-          ∙ over-over p (b ∷ []) (digits_of (m - 1) (rest / 2)) out (omega (arith, l.ends))
-          ∙ sym (ap (λ (ds : List ℕ). over p ds out) (digits_more m rest some)) ∙ l.writes;
-    }
+    let ds = digits_of (n - (p + 1)) (rest / 2) in
+    let less : n - p ≡ suc (n - (p + 1)) = omega arith in
+    ap (over (p + 1) ds) (over-set p b out (omega arith))
+    ∙ over-over p (b ∷ []) ds out (omega arith)
+    ∙ sym (ap (λ (m : ℕ). over p (digits_of m rest) out) less) ∙ h
 
-pub digits_done : (m rest p stop : ℕ) (out done : List ℕ) → m ≡ 0 → DigitsLeft m rest p stop out done → (p ≡ stop) × (out ≡ done)
-digits_done m rest p stop out done none l =
-    (omega (arith, l.ends, none), sym (over_none p out) ∙ sym (ap (λ (k : ℕ). over p (digits_of k rest) out) none) ∙ l.writes)
+pub digits_done : (p n rest : ℕ) (out done : List ℕ) → n ≤ p → over p (digits_of (n - p) rest) out ≡ done → out ≡ done
+digits_done p n rest out done none h =
+    let zero-left : n - p ≡ 0 = omega arith in
+    sym (over_none p out) ∙ sym (ap (λ (m : ℕ). over p (digits_of m rest) out) zero-left) ∙ h
 
 -- ---- rows
 
 pub length-row_line : (s : Section) (n row : ℕ) → length (row_line s n row) ≡ length (label_of s) + n + 1
 length-row_line s n row =
     length-append (label_of s) (digits_of n row ++ 10 ∷ []) ∙ omega (arith, length-append (digits_of n row) (10 ∷ []), digits_length n row)
+
+-- a section's word is its label without the space
+pub label_size : (word : List ℕ) (s : Section) → word ++ 32 ∷ [] ≡ label_of s → length word + 1 ≡ length (label_of s)
+label_size word s is = sym (length-append word (32 ∷ [])) ∙ ap length is
 
 pub rows_length : (s : Section) (n : ℕ) (rows : List ℕ) → length (section_text s n rows) ≡ length rows * (length (label_of s) + n + 1)
 rows_length s n [] = omega arith

@@ -1,5 +1,6 @@
 -- What stands in a line of a card's text.
-use Rattle.std.specs.Prelude.{ℕ, suc, ◌+◌, ◌-◌, ◌*◌, ◌%◌, Bool, true, cond, ◌&&◌, List, [], ◌∷◌, ◌++◌, length, take, Some, None, Ok, Err, codes, Option, Result, ◌==◌, nat_le, slice_index}
+use Rattle.std.specs.Prelude.{ℕ, suc, ◌+◌, ◌-◌, ◌*◌, ◌%◌, Bool, true, cond, ◌&&◌, List, [], ◌∷◌, length, take, Some, None, Ok, Err, codes, Option, Result, ◌==◌, nat_le, slice_index}
+use Rattle.std.specs.List.{slice_split}
 use Rattle.std.specs.Str.{bytes_eq}
 use Rattle.code.specs.declared.refusal.Section.{Section}
 use Rattle.code.specs.declared.refusal.Section.TheVariants.{Group, Transform, Coset}
@@ -10,13 +11,9 @@ use Rattle.card_text.specs.declared.line.Keyword.TheVariants.{Length, Row, Unkno
 
 -- ---- lines
 
--- the lines of a text: the pieces between its bytes 10, where `line` is the beginning of the first
-abbrev pub lines_from : (line : List ℕ) → List ℕ → List (List ℕ)
-lines_from line [] = line ∷ []
-lines_from line (b ∷ bs) = cond (b == 10) (line ∷ lines_from [] bs) (lines_from (line ++ b ∷ []) bs)
-
+-- the lines of a text: the pieces between its bytes 10
 abbrev pub lines_of : List ℕ → List (List ℕ)
-lines_of bytes = lines_from [] bytes
+lines_of bytes = slice_split (λ b. b == 10) bytes
 
 -- the line without a carriage return at its end
 abbrev pub trimmed : List ℕ → List ℕ

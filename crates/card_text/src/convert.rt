@@ -20,13 +20,9 @@ pub fn make_file(text: &[u8], out: &mut [u8]) -> Result<usize, Fault>
     ensures same { IfOk result (λ end. result_ok (read_card_lem (take end out.new)) ≡ result_ok (read_text_lem text.now)) }
 {
     let mut card = FinishedCard::new();
-    match read_text(text, &mut card) {
-        Ok(()) => match write_card(&card, out) {
-            Ok(end) => Ok(end),
-            Err(refusal) => Err(Fault::Refused { refusal }),
-        },
-        Err(fault) => Err(Fault::InText { fault }),
-    }
+    read_text(text, &mut card)?;
+    let end = write_card(&card, out)?;
+    Ok(end)
 }
 
 // Writes the text of the card that a file describes. The text is read as the card that the file is read as.
@@ -35,20 +31,8 @@ pub fn show_file(file: &[u8], out: &mut [u8]) -> Result<usize, Fault>
     ensures bytes { out.new ≡ written_as text_of (result_ok (read_card_lem file.now)) out.old }
     ensures same { IfOk result (λ end. result_ok (read_text_lem (take end out.new)) ≡ result_ok (read_card_lem file.now)) }
 {
-    text_from(file, out)
-}
-
-fn text_from(file: &[u8], out: &mut [u8]) -> Result<usize, Fault>
-    ensures answer { result ≡ converted text_of (file_told (read_card_lem file.now)) (length out.old) }
-    ensures bytes { out.new ≡ written_as text_of (result_ok (read_card_lem file.now)) out.old }
-    ensures same { IfOk result (λ end. result_ok (read_text_lem (take end out.new)) ≡ result_ok (read_card_lem file.now)) }
-{
     let mut card = FinishedCard::new();
-    match read_card(file, &mut card) {
-        Ok(()) => match write_text(&card, out) {
-            Ok(end) => Ok(end),
-            Err(refusal) => Err(Fault::Refused { refusal }),
-        },
-        Err(refusal) => Err(Fault::Refused { refusal }),
-    }
+    read_card(file, &mut card)?;
+    let end = write_text(&card, out)?;
+    Ok(end)
 }

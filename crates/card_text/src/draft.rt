@@ -40,30 +40,22 @@ pub(crate) fn set_length(draft: Draft, digits: &[u8]) -> Result<Draft, Problem>
 fn start(number: Option<usize>) -> Result<Draft, Problem>
     ensures { MatchResult result (λ d. Ok (stage_of d) ≡ started number) (λ e. Err e ≡ started number) }
 {
-    let Some(places) = number else {
-        return Err(Problem::LengthNotDecimal);
-    };
-    match WordLength::new(places) {
-        Ok(length) => Ok(Draft::Open(length, OpenCard::InGroup(GroupCard::new(length)))),
-        Err(refusal) => Err(Problem::Refused { refusal }),
-    }
+    let places = number.ok_or(Problem::LengthNotDecimal)?;
+    let length = WordLength::new(places)?;
+    Ok(Draft::Open(length, OpenCard::InGroup(GroupCard::new(length))))
 }
 
 // The draft after a line that gives a row.
 pub(crate) fn add_row(draft: Draft, section: Section, digits: &[u8]) -> Result<Draft, Problem>
     ensures { MatchResult result (λ d. Ok (stage_of d) ≡ row_added section (stage_of draft) digits.now) (λ e. Err e ≡ row_added section (stage_of draft) digits.now) }
 {
-    match draft {
-        Draft::Unset => Err(Problem::LengthMissing),
-        Draft::Open(length, card) => {
-            let open = move_to(card, section)?;
-            let row = read_row(length, section, digits)?;
-            match take_row(open, row) {
-                Ok(next) => Ok(Draft::Open(length, next)),
-                Err(refusal) => Err(Problem::Refused { refusal }),
-            }
-        }
-    }
+    let Draft::Open(length, card) = draft else {
+        return Err(Problem::LengthMissing);
+    };
+    let open = move_to(card, section)?;
+    let row = read_row(length, section, digits)?;
+    let next = take_row(open, row)?;
+    Ok(Draft::Open(length, next))
 }
 
 // The same card with that section open, unless the section is closed.
@@ -101,18 +93,18 @@ fn take_row(card: OpenCard, row: u64) -> Result<OpenCard, Refusal>
     ensures { MatchResult result (λ k. (shown_of k ≡ pushed (shown_of card) (open_of card) row) × (open_of k ≡ open_of card) × (Ok tt ≡ verdict (shown_of card) (open_of card) row)) (λ e. Err e ≡ verdict (shown_of card) (open_of card) row) }
 {
     match card {
-        OpenCard::InGroup(mut group) => match group.add_row(row) {
-            Ok(()) => Ok(OpenCard::InGroup(group)),
-            Err(refusal) => Err(refusal),
-        },
-        OpenCard::InTransform(mut transform) => match transform.add_row(row) {
-            Ok(()) => Ok(OpenCard::InTransform(transform)),
-            Err(refusal) => Err(refusal),
-        },
-        OpenCard::InCoset(mut coset) => match coset.add_row(row) {
-            Ok(()) => Ok(OpenCard::InCoset(coset)),
-            Err(refusal) => Err(refusal),
-        },
+        OpenCard::InGroup(mut group) => {
+            group.add_row(row)?;
+            Ok(OpenCard::InGroup(group))
+        }
+        OpenCard::InTransform(mut transform) => {
+            transform.add_row(row)?;
+            Ok(OpenCard::InTransform(transform))
+        }
+        OpenCard::InCoset(mut coset) => {
+            coset.add_row(row)?;
+            Ok(OpenCard::InCoset(coset))
+        }
     }
 }
 
@@ -120,8 +112,8 @@ fn take_row(card: OpenCard, row: u64) -> Result<OpenCard, Refusal>
 pub(crate) fn finish(draft: Draft) -> Result<FinishedCard, Problem>
     ensures { MatchResult result (λ k. Ok (card_of k.table) ≡ finished (stage_of draft)) (λ e. Err e ≡ finished (stage_of draft)) }
 {
-    match draft {
-        Draft::Unset => Err(Problem::LengthMissing),
-        Draft::Open(_, card) => Ok(in_coset(card).finish()),
-    }
+    let Draft::Open(_, card) = draft else {
+        return Err(Problem::LengthMissing);
+    };
+    Ok(in_coset(card).finish())
 }

@@ -1,4 +1,7 @@
+ghost use Rattle.std.specs.Prelude.{◌≡◌};
+
 use code::refusal::{Refusal, Section};
+use std::error::Error;
 use std::fmt;
 
 // What is wrong with a line of a card's text. A refusal is the card's own.
@@ -59,6 +62,18 @@ impl fmt::Display for Problem {
     }
 }
 
+impl Error for Problem {}
+
+impl From<Refusal> for Problem {
+    ghost use Rattle.card_text.specs.declared.fault.Problem.TheVariants.{Refused};
+
+    ghost from_gives = { λ refusal problem. problem ≡ Refused refusal };
+
+    fn from(refusal: Refusal) -> Problem {
+        Problem::Refused { refusal }
+    }
+}
+
 // A line of a text, counted from 1, and what is wrong with it.
 #[derive(Clone, Copy, PartialEq, Eq, Debug)]
 pub struct TextFault {
@@ -68,11 +83,11 @@ pub struct TextFault {
 
 impl fmt::Display for TextFault {
     fn fmt<W: fmt::Write>(&self, f: &mut fmt::Formatter<W>) -> fmt::Result {
-        let line = self.line;
-        let problem = self.problem;
-        write!(f, "line {line}: {problem}")
+        write!(f, "line {}: {}", self.line, self.problem)
     }
 }
+
+impl Error for TextFault {}
 
 // Why a text was not made into a file, or a file not shown as text: a fault of the text, or a refusal of the file or of
 // the memory for the result.
@@ -86,10 +101,29 @@ impl fmt::Display for Fault {
     fn fmt<W: fmt::Write>(&self, f: &mut fmt::Formatter<W>) -> fmt::Result {
         match *self {
             Fault::InText { fault } => write!(f, "{fault}"),
-            Fault::Refused { refusal } => {
-                let number = refusal.number();
-                write!(f, "refusal {number}: {refusal}")
-            }
+            Fault::Refused { refusal } => write!(f, "{}", Problem::from(refusal)),
         }
+    }
+}
+
+impl Error for Fault {}
+
+impl From<TextFault> for Fault {
+    ghost use Rattle.card_text.specs.declared.fault.Fault.TheVariants.{InText};
+
+    ghost from_gives = { λ inner fault. fault ≡ InText inner };
+
+    fn from(fault: TextFault) -> Fault {
+        Fault::InText { fault }
+    }
+}
+
+impl From<Refusal> for Fault {
+    ghost use Rattle.card_text.specs.declared.fault.Fault.TheVariants.{Refused};
+
+    ghost from_gives = { λ refusal fault. fault ≡ Refused refusal };
+
+    fn from(refusal: Refusal) -> Fault {
+        Fault::Refused { refusal }
     }
 }

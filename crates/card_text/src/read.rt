@@ -6,9 +6,7 @@ ghost use Rattle.card_text.specs.Drafts.{entry_read, in_line, line_read, noted, 
 
 use crate::draft::{Draft, add_row, finish, set_length};
 use crate::fault::{Problem, TextFault};
-use crate::line::{
-    Keyword, NEWLINE, after_word, is_passed_over, keyword_of, without_return, word_length,
-};
+use crate::line::{Keyword, NEWLINE, is_passed_over, keyword_of, split_word, without_return};
 use card::states::FinishedCard;
 
 // Fills the card from a text, or says what is wrong with the text and leaves the card as it was. The lines of a text that
@@ -24,39 +22,32 @@ pub fn read_text(bytes: &[u8], into: &mut FinishedCard) -> Result<(), TextFault>
     Ok(())
 }
 
-// The card that the lines of a text describe.
+// The card that the lines of a text describe. The lines are counted beside the loop, since a fault at the end needs the
+// number of the last.
 fn read_lines(bytes: &[u8]) -> Result<FinishedCard, TextFault>
     ensures answer { MatchResult result (λ k. Ok (card_of k.table) ≡ read_text_lem bytes.now) (λ e. Err e ≡ read_text_lem bytes.now) }
     ensures says { IfOk result (λ k. text_says bytes.now ≡ card_says (card_of k.table)) }
 {
     let mut draft = Draft::Unset;
-    let mut line = 1;
-    let mut start = 0;
-    for (i, byte) in bytes.iter().enumerate() {
-        if *byte == NEWLINE {
-            draft = read_line(draft, line, &bytes[start..i])?;
-            line += 1;
-            start = i + 1;
-        }
+    let mut count = 0;
+    for line in bytes.split(|byte| *byte == NEWLINE) {
+        count += 1;
+        draft = read_line(draft, count, line)?;
     }
-    let last = read_line(draft, line, &bytes[start..])?;
-    match finish(last) {
-        Ok(card) => Ok(card),
-        Err(problem) => Err(TextFault { line, problem }),
-    }
+    finish(draft).map_err(|problem| TextFault {
+        line: count,
+        problem,
+    })
 }
 
 // The draft after one line more, which has that number.
 fn read_line(draft: Draft, number: usize, bytes: &[u8]) -> Result<Draft, TextFault>
     ensures { MatchResult result (λ d. Ok (stage_of d) ≡ in_line number (line_read (stage_of draft) (trimmed bytes.now))) (λ e. Err e ≡ in_line number (line_read (stage_of draft) (trimmed bytes.now))) }
 {
-    match read_entry(draft, without_return(bytes)) {
-        Ok(next) => Ok(next),
-        Err(problem) => Err(TextFault {
-            line: number,
-            problem,
-        }),
-    }
+    read_entry(draft, without_return(bytes)).map_err(|problem| TextFault {
+        line: number,
+        problem,
+    })
 }
 
 // The draft after what a line says.
@@ -66,9 +57,8 @@ fn read_entry(draft: Draft, line: &[u8]) -> Result<Draft, Problem>
     if is_passed_over(line) {
         return Ok(draft);
     }
-    let word = word_length(line);
-    let rest = after_word(line, word);
-    match keyword_of(&line[0..word]) {
+    let (word, rest) = split_word(line);
+    match keyword_of(word) {
         Keyword::Length => set_length(draft, rest),
         Keyword::Row(section) => add_row(draft, section, rest),
         Keyword::Unknown => Err(Problem::UnknownKeyword),

@@ -1,20 +1,22 @@
-ghost use Rattle.std.specs.Prelude.{◌≡◌, ◌+◌, ◌<◌, ◌≤◌, [], ◌∷◌, length, take, IfOk, Ok};
+ghost use Rattle.std.specs.Prelude.{◌≡◌, ◌+◌, ◌<◌, ◌≤◌, [], ◌∷◌, ◌++◌, length, take, IfOk, Ok};
 ghost use Rattle.code.specs.Limits.{max_places};
 ghost use Rattle.card.specs.Cards.{max_section_rows};
 ghost use Rattle.card.specs.Tables.{card_of};
 ghost use Rattle.card_file.specs.Files.{overwritten, wrote};
 ghost use Rattle.card_text.specs.Drafts.{read_text_lem};
-ghost use Rattle.card_text.specs.Texts.{decimal_text, digits_of, label_of, length_line, over, row_line, section_text, text_of};
+ghost use Rattle.card_text.specs.Texts.{decimal_text, digits_of, length_line, over, row_line, section_text, text_of};
 
-use crate::line::ZERO;
+use crate::line::{LENGTH, SPACE, ZERO, word_of};
 use card::states::FinishedCard;
 use code::refusal::{Refusal, Section};
 
 // The number from which on a decimal has two digits.
 const TEN: usize = 10;
 
-// The bytes of a length line of one decimal digit, and the one byte that ends a line.
+// The bytes of a length line of one decimal digit, the one byte of a space, and the one that ends a line.
 const SHORT_LENGTH_LINE: usize = 9;
+
+const SPACE_SIZE: usize = 1;
 
 const LINE_END: usize = 1;
 
@@ -68,22 +70,11 @@ fn rows_size(section: Section, places: usize, rows: &[u64]) -> usize
     ensures value { result ≡ length (section_text section places rows.now) }
     ensures bound { result ≤ 600 }
 {
-    rows.len() * (label(section).len() + places + LINE_END)
+    rows.len() * (word_of(section).len() + SPACE_SIZE + places + LINE_END)
 }
 
-// The word of a section, and a space.
-fn label(section: Section) -> &'static [u8]
-    ensures value { result.now ≡ label_of section }
-    ensures bound { length result.now ≤ 10 }
-{
-    match section {
-        Section::Group => b"group ",
-        Section::Transform => b"transform ",
-        Section::Coset => b"coset ",
-    }
-}
-
-// Writes bytes from `at` on, and tells where they end, as the writers below do too.
+// Writes bytes from `at` on, and tells where they end, as the writers below do too: the memory is lent, and the answer
+// is how many bytes were written.
 fn write_bytes(out: &mut [u8], at: usize, bytes: &[u8]) -> usize
     requires { at + length bytes.now ≤ length out.old }
     ensures end { result ≡ at + length bytes.now }
@@ -94,6 +85,16 @@ fn write_bytes(out: &mut [u8], at: usize, bytes: &[u8]) -> usize
     end
 }
 
+// Writes the word that a line begins with, and a space.
+fn write_word(out: &mut [u8], at: usize, word: &[u8]) -> usize
+    requires { at + length word.now + 1 ≤ length out.old }
+    ensures end { result ≡ at + length word.now + 1 }
+    ensures bytes { out.new ≡ over at (word.now ++ 32 ∷ []) out.old }
+{
+    let end = write_bytes(out, at, word);
+    write_bytes(out, end, &[SPACE])
+}
+
 // Writes the line of the length at the beginning.
 fn write_length(out: &mut [u8], places: usize) -> usize
     requires small { places < 100 }
@@ -101,7 +102,7 @@ fn write_length(out: &mut [u8], places: usize) -> usize
     ensures end { result ≡ length (length_line places) }
     ensures bytes { out.new ≡ over 0 (length_line places) out.old }
 {
-    let word = write_bytes(out, 0, b"length ");
+    let word = write_word(out, 0, LENGTH);
     let number = write_decimal(out, word, places);
     write_bytes(out, number, b"\n")
 }
@@ -139,7 +140,7 @@ fn write_row(out: &mut [u8], at: usize, section: Section, places: usize, row: u6
     ensures end { result ≡ at + length (row_line section places row) }
     ensures bytes { out.new ≡ over at (row_line section places row) out.old }
 {
-    let word = write_bytes(out, at, label(section));
+    let word = write_word(out, at, word_of(section));
     let digits = write_digits(out, word, places, row);
     write_bytes(out, digits, b"\n")
 }
@@ -150,12 +151,18 @@ fn write_digits(out: &mut [u8], at: usize, places: usize, row: u64) -> usize
     ensures end { result ≡ at + length (digits_of places row) }
     ensures bytes { out.new ≡ over at (digits_of places row) out.old }
 {
-    let mut rest = row;
-    let mut end = at;
-    for _place in 0..places {
-        out[end] = ZERO + (rest % 2) as u8;
-        rest /= 2;
-        end += 1;
-    }
+    let end = at + places;
+    fill_digits(&mut out[at..end], row);
     end
+}
+
+// Fills memory with the digits of a row.
+fn fill_digits(digits: &mut [u8], row: u64)
+    ensures { digits.new ≡ digits_of (length digits.old) row }
+{
+    let mut rest = row;
+    for digit in digits.iter_mut() {
+        *digit = ZERO + (rest % 2) as u8;
+        rest /= 2;
+    }
 }

@@ -1,3 +1,4 @@
+use card_text::fault::Fault;
 use code::refusal::Refusal;
 use std::io;
 
@@ -6,12 +7,19 @@ use std::io;
 pub enum Failure {
     Differs,
     Refused { refusal: Refusal },
+    NotConverted { fault: Fault },
     Output { error: io::Error },
 }
 
 impl From<Refusal> for Failure {
     fn from(refusal: Refusal) -> Failure {
         Failure::Refused { refusal }
+    }
+}
+
+impl From<Fault> for Failure {
+    fn from(fault: Fault) -> Failure {
+        Failure::NotConverted { fault }
     }
 }
 

@@ -7,38 +7,29 @@ mod texts;
 mod trips;
 
 use card_text::convert::{make_file, show_file};
+use card_text::fault::Fault;
 use failure::{Failure, expect};
+use std::fmt;
 
 // More bytes than a file or a text of a card has.
 const OUTPUT_SIZE: usize = 2048;
 
-// Prints what is wrong with a text.
-fn refused_text(rt: &HostRuntime, text: &str) -> Result<(), Failure> {
-    let mut out = [0u8; OUTPUT_SIZE];
-    match make_file(text.as_bytes(), &mut out) {
-        Ok(_) => Err(Failure::Differs),
-        Err(fault) => {
-            println!(rt; "{text:?}: {fault}")?;
-            Ok(())
-        }
-    }
-}
-
-// Prints why a file is refused.
-fn refused_file(rt: &HostRuntime, file: &[u8]) -> Result<(), Failure> {
-    let mut out = [0u8; OUTPUT_SIZE];
-    match show_file(file, &mut out) {
-        Ok(_) => Err(Failure::Differs),
-        Err(fault) => {
-            println!(rt; "{file:?}: {fault}")?;
-            Ok(())
-        }
-    }
+// Prints a text or a file and why it is refused.
+fn refused<T: fmt::Debug + Drop>(
+    rt: &HostRuntime,
+    input: T,
+    answer: Result<usize, Fault>,
+) -> Result<(), Failure> {
+    let Err(fault) = answer else {
+        return Err(Failure::Differs);
+    };
+    println!(rt; "{input:?}: {fault}")?;
+    Ok(())
 }
 
 fn run(rt: &HostRuntime) -> Result<(), Failure> {
     for text in texts::OF_E {
-        expect(trips::is_code_e(text.as_bytes()))?;
+        expect(trips::is_code_e(text.as_bytes())?)?;
     }
     println!(rt;
         "the text of code E, in four forms, is made into the bytes of its file, which are shown as the text"
@@ -50,10 +41,10 @@ fn run(rt: &HostRuntime) -> Result<(), Failure> {
     expect(trips::refuses_short_memory()?)?;
     println!(rt; "memory that is a byte too short for a text is refused and stays as it was")?;
     for text in texts::REFUSED {
-        refused_text(rt, text)?;
+        refused(rt, text, make_file(text.as_bytes(), &mut [0; OUTPUT_SIZE]))?;
     }
-    for i in 0..files::COUNT {
-        refused_file(rt, files::refused(i))?;
+    for file in files::REFUSED {
+        refused(rt, file, show_file(file, &mut [0; OUTPUT_SIZE]))?;
     }
     Ok(())
 }

@@ -5,6 +5,7 @@ use crate::texts::OF_E;
 use card::states::{FinishedCard, GroupCard};
 use card_file::write::write_card;
 use card_text::convert::{make_file, show_file};
+use card_text::fault::Fault;
 use card_text::read::read_text;
 use card_text::write::write_text;
 use code::length::WordLength;
@@ -23,16 +24,12 @@ const E_SHORT: usize = 60;
 const FILL: u8 = 7;
 
 // Whether a text is made into the file of code E, and that file is shown as the plain text.
-pub(crate) fn is_code_e(text: &[u8]) -> bool {
+pub(crate) fn is_code_e(text: &[u8]) -> Result<bool, Fault> {
     let mut file = [FILL; OUTPUT_SIZE];
     let mut shown = [FILL; OUTPUT_SIZE];
-    let Ok(end) = make_file(text, &mut file) else {
-        return false;
-    };
-    let Ok(last) = show_file(&file[0..end], &mut shown) else {
-        return false;
-    };
-    &file[0..end] == FILE_OF_E.as_slice() && &shown[0..last] == OF_E[0].as_bytes()
+    let end = make_file(text, &mut file)?;
+    let last = show_file(&file[0..end], &mut shown)?;
+    Ok(&file[0..end] == FILE_OF_E.as_slice() && &shown[0..last] == OF_E[0].as_bytes())
 }
 
 // A card of length 64 with eight rows in each section, each with one digit.
@@ -61,12 +58,8 @@ pub(crate) fn full_card() -> Result<(usize, usize), Failure> {
     let card = full()?;
     let text_end = write_text(&card, &mut text)?;
     let file_end = write_card(&card, &mut file)?;
-    let Ok(made_end) = make_file(&text[0..text_end], &mut made) else {
-        return Err(Failure::Differs);
-    };
-    let Ok(shown_end) = show_file(&file[0..file_end], &mut shown) else {
-        return Err(Failure::Differs);
-    };
+    let made_end = make_file(&text[0..text_end], &mut made)?;
+    let shown_end = show_file(&file[0..file_end], &mut shown)?;
     expect(made_end == file_end && shown_end == text_end)?;
     expect(&made[0..] == &file[0..] && &shown[0..] == &text[0..])?;
     Ok((text_end, file_end))
@@ -78,10 +71,7 @@ pub(crate) fn refuses_short_memory() -> Result<bool, Failure> {
     expect(read_text(OF_E[0].as_bytes(), &mut card).is_ok())?;
     let mut short = [FILL; E_SHORT];
     let mut enough = [FILL; E_TEXT];
-    let refused = match write_text(&card, &mut short) {
-        Ok(_) => false,
-        Err(refusal) => refusal == Refusal::OutputShort,
-    };
+    let refused = write_text(&card, &mut short);
     let end = write_text(&card, &mut enough)?;
-    Ok(refused && short == [FILL; E_SHORT] && end == E_TEXT)
+    Ok(refused == Err(Refusal::OutputShort) && short == [FILL; E_SHORT] && end == E_TEXT)
 }

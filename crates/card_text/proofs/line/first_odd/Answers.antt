@@ -1,14 +1,13 @@
-use Rattle.std.proofs.Common.{sym, ◌∙◌, arith}
-use Rattle.card_text.proofs.Steps.{odd_here, odd_more, odd_end}
+use Rattle.std.proofs.Common.{not, sym, ◌∙◌, rules, tests}
+use Rattle.std.proofs.lemmas.Iterator.{YieldsList-from_slice}
+use Rattle.std.proofs.lemmas.Iterator.Adapters.{position_from-zero}
+use Rattle.std.proofs.lemmas.Iterator.Search.{position_from_yields_List}
+use Rattle.card_text.specs.Lines.{is_binary_lem}
+use Rattle.card_text.proofs.Steps.{first_odd-position}
 use Rattle.card_text.proofs.line.first_odd.Goals as goal
 
-pub returns-then-not-is_binary : goal.returns-then-not-is_binary
-returns-then-not-is_binary c =
-    sym (odd_here c.args.digits.now c.loop-place.place (omega arith) (sym c.is_binary.ensures ∙ c.if-not-is_binary.true)) ∙ c.loop-place.invariant
-
-pub loop-place-preserved : goal.loop-place-preserved
-loop-place-preserved c =
-    sym (odd_more c.args.digits.now c.loop-place.place (omega arith) (sym c.is_binary.ensures ∙ c.if-not-is_binary.false)) ∙ c.loop-place.invariant
-
 pub returns : goal.returns
-returns c = sym (odd_end c.args.digits.now c.loop-place.place (omega arith)) ∙ c.loop-place.invariant
+returns c =
+    let ds = c.args.digits.now in
+    position_from_yields_List (λ d. not (is_binary_lem d)) _ _ c.position.result c.position.ensures.ran (YieldsList-from_slice ds cc) (λ x b q k. search (rules, tests))
+    ∙ position_from-zero (λ d. not (is_binary_lem d)) ds ∙ sym (first_odd-position ds 0)

@@ -1,54 +1,39 @@
-use Rattle.std.proofs.Common.{◌≡◌, Ok, Err, Result, sym, arith}
+use Rattle.std.proofs.Common.{ℕ, ◌+◌, length, sym, subst, eqb, rules, tests, length-append}
+use Rattle.std.proofs.lemmas.Iterator.Consumers.{YieldsList-at, YieldsList-end, YieldsList-turn}
+use Rattle.std.proofs.lemmas.Iterator.Splits.{YieldsList-from_slice_split}
 use Rattle.std.proofs.lemmas.Result.{err_from_is_err_and}
-use Rattle.card.specs.Cards.{Card}
-use Rattle.card.specs.Tables.{card_of}
-use Rattle.card_text.specs.declared.fault.TextFault.{TextFault}
-use Rattle.card_text.specs.Drafts.{read_text_lem, stage_of}
-use Rattle.card_text.proofs.Readings.{left_more, left_break, left_fault, last_fault, last_done}
-use Rattle.card_text.proofs.Said.{text_says-read}
+use Rattle.card_text.specs.Drafts.{finished, in_line, stage_of}
+use Rattle.card_text.proofs.Readings.{Described, Left, left_more, left_fault, left_none, says_described}
 use Rattle.card_text.proofs.read.read_lines.Goals as goal
-use Rattle.card_text.proofs.read.read_lines.Goals.{then-byte-eq-NEWLINE+in_ok-draft, else-byte-eq-NEWLINE}
 
-pub returns-in_err-draft : goal.returns-in_err-draft
-returns-in_err-draft c =
+pub returns-in_err-draft-clause-answer : goal.returns-in_err-draft-clause-answer
+returns-in_err-draft-clause-answer c =
     let bytes = c.args.bytes.now in
+    let it = c.split-line-items.ensures in
+    let (inside, is) = YieldsList-turn
+    (YieldsList-at c.into_iter-line-iterator.ensures.into_iter_gives (YieldsList-from_slice_split _ (λ b. eqb b 10) bytes it.rest it.done it.closure (λ x b q k. search (rules, tests))))
+    c.loop-line.yielded _ c.loop-line.yielded_by _ _ c.in-Some.line c.in-Some.is c.next.ensures.steps in
     let p = err_from_is_err_and c.from_residual.result c.from_residual.ensures.1 in
-    rw (p.1, p.2) (record { says = tt; answer = left_fault bytes c.loop-i.i c.loop-i.start c.loop-i.line (stage_of c.loop-i.draft) c.in_err-draft.field-0.0 (read_text_lem bytes) (omega arith) c.if-byte-eq-NEWLINE.true c.in_err-draft.ensures c.loop-i.invariant })
+    rw (p.1, p.2) (left_fault bytes c.in-Some.line.now (length c.loop-line.yielded) c.loop-line.count (stage_of c.loop-line.draft) inside is c.loop-line.invariant c.in_err-draft.field-0.0 c.in_err-draft.ensures)
 
-pub loop-i-preserved : goal.loop-i-preserved
-loop-i-preserved c =
+pub loop-line-preserved : goal.loop-line-preserved
+loop-line-preserved c =
     let bytes = c.args.bytes.now in
-    let i = c.loop-i.i in
-    let s = c.loop-i.start in
-    let n = c.loop-i.line in
-    let d = stage_of c.loop-i.draft in
-    elim c.if-byte-eq-NEWLINE.branch [
-      | then-byte-eq-NEWLINE+in_ok-draft w ↦
-          rw (w.draft-is, w.start-is, w.line-is) (left_break bytes i s n d (stage_of w.in_ok-draft.draft) (read_text_lem bytes) (omega arith) w.if-byte-eq-NEWLINE.true w.in_ok-draft.ensures c.loop-i.invariant)
-      | else-byte-eq-NEWLINE w ↦
-          rw (w.draft-is, w.start-is, w.line-is) (left_more bytes i s n d (read_text_lem bytes) (omega arith) w.if-byte-eq-NEWLINE.false c.loop-i.invariant)
-    ]
+    let it = c.split-line-items.ensures in
+    let (inside, is) = YieldsList-turn
+    (YieldsList-at c.into_iter-line-iterator.ensures.into_iter_gives (YieldsList-from_slice_split _ (λ b. eqb b 10) bytes it.rest it.done it.closure (λ x b q k. search (rules, tests))))
+    c.loop-line.yielded _ c.loop-line.yielded_by _ _ c.in-Some.line c.in-Some.is c.next.ensures.steps in
+    subst (λ (i : ℕ). Left bytes i (c.loop-line.count + 1) (stage_of c.in_ok-draft.draft)) (sym (length-append c.loop-line.yielded _))
+    (left_more bytes c.in-Some.line.now (length c.loop-line.yielded) c.loop-line.count (stage_of c.loop-line.draft) inside is c.loop-line.invariant (stage_of c.in_ok-draft.draft) c.in_ok-draft.ensures)
 
-pub returns-in_err-last : goal.returns-in_err-last
-returns-in_err-last c =
+pub returns : goal.returns
+returns c =
     let bytes = c.args.bytes.now in
-    let p = err_from_is_err_and c.from_residual-in_err-last.result c.from_residual-in_err-last.ensures.1 in
-    rw (p.1, p.2) (record { says = tt; answer = last_fault bytes c.loop-i.i c.loop-i.start c.loop-i.line (stage_of c.loop-i.draft) (read_text_lem bytes) (omega arith) c.loop-i.invariant c.in_err-last.field-0.0 c.in_err-last.ensures })
-
-pub returns-in-Ok : goal.returns-in-Ok
-returns-in-Ok c =
-    let bytes = c.args.bytes.now in
-    let k = card_of c.in-Ok.card.table in
-    let is : ◌≡◌ {A = Result Card TextFault} (Ok k) (read_text_lem bytes) =
-    last_done bytes c.loop-i.i c.loop-i.start c.loop-i.line (stage_of c.loop-i.draft) (read_text_lem bytes) (omega arith) c.loop-i.invariant
-    (stage_of c.in_ok-last.last) (Ok k) c.in_ok-last.ensures c.in-Ok.ensures in
-    record { answer = is; says = text_says-read bytes k (sym is) }
-
-pub returns-in-Err : goal.returns-in-Err
-returns-in-Err c =
-    let bytes = c.args.bytes.now in
-    record {
-      answer = last_done bytes c.loop-i.i c.loop-i.start c.loop-i.line (stage_of c.loop-i.draft) (read_text_lem bytes) (omega arith) c.loop-i.invariant
-          (stage_of c.in_ok-last.last) (Err c.in-Err.problem) c.in_ok-last.ensures c.in-Err.ensures;
-      says = tt;
-    }
+    let it = c.split-line-items.ensures in
+    let end = YieldsList-end
+    (YieldsList-at c.into_iter-line-iterator.ensures.into_iter_gives (YieldsList-from_slice_split _ (λ b. eqb b 10) bytes it.rest it.done it.closure (λ x b q k. search (rules, tests))))
+    c.loop-line.yielded _ c.loop-line.yielded_by _ _ c.in-None.is c.next.ensures.steps in
+    let all = left_none bytes (length c.loop-line.yielded) c.loop-line.count (stage_of c.loop-line.draft) end.1 c.loop-line.invariant in
+    let done : Described c.map_err.result (in_line c.loop-line.count (finished (stage_of c.loop-line.draft))) = search rules in
+    let answer = subst (Described c.map_err.result) all done in
+    record { answer = answer; says = says_described bytes c.map_err.result answer }
