@@ -1,5 +1,5 @@
 -- Words searched one after the other.
-use Rattle.std.proofs.Common.{◌≡◌, ℕ, ◌+◌, ◌*◌, ◌<◌, ◌≤◌, ◌≢◌, List, ◌++◌, map, length, get_or, take, drop, set, Ok, Err, Option, Result, sym, ap, ◌∙◌, subst, ⊎_elim, mul-le-mul_right, add-mul, arith, MatchResult}
+use Rattle.std.proofs.Common.{◌≡◌, ℕ, ◌+◌, ◌<◌, ◌≤◌, ◌≢◌, List, ◌++◌, map, length, get_or, take, drop, set, Ok, Err, Option, Result, sym, ap, ◌∙◌, subst, ⊎_elim, arith, MatchResult}
 use borrow.Rule.Slice.PartMut.{put_mid}
 use Rattle.std.proofs.lemmas.List.{take-append-drop, get_or-set_same, get_or-set_other}
 use Rattle.std.proofs.lemmas.Bool.{cases_lt}
@@ -10,7 +10,8 @@ use Rattle.finder.specs.Search.{Answered, Refused, refusal}
 use Rattle.reading.specs.declared.level.Level.{Level}
 use Rattle.reading.specs.Kinds.{level_weight, level_size}
 use Rattle.ffi.specs.declared.answer.Answer.{Answer}
-use Rattle.ffi.specs.Batch.{AnswerTo, SearchedFirst, WordSearched, refused, reason, word_at}
+use Rattle.card.specs.Cards.{Card, rows_of}
+use Rattle.ffi.specs.Batch.{AnswerTo, CardLeft, IsAnswerTo, IsFinderOf, SearchedFirst, WordSearched, WordsLeft, call_number, refused, reason, word_at, words_number}
 use Rattle.code.specs.Words.{Best, agrees}
 
 -- a part written back as it was
@@ -18,17 +19,13 @@ pub put_same : {X : Type 0} (a k : ℕ) (xs ys : List X) → ys ≡ take k (drop
 put_same a k xs ys e =
     ap (λ z. take a xs ++ (z ++ drop k (drop a xs))) e ∙ ap (λ z. take a xs ++ z) (take-append-drop k (drop a xs)) ∙ take-append-drop a xs
 
--- the room of word j
-pub room : (j count n : ℕ) → j < count → j * n + n ≤ count * n
-room j count n l = let e = add-mul j 1 n in let h : (j + 1) * n ≤ count * n = mul-le-mul_right n (omega arith) in omega arith
-
 module _ (n : ℕ) (rows : List ℕ) (need : ℕ) (word work after : List Level) (a : Answer) where
   why : Option Refusal
   why = refusal n need (map level_size word) (length work)
 
   pub to_answer : (r : Result (Found Level) Refusal)
       → MatchResult r (λ f. Answered level_weight level_size n rows need word work after f.message f.reading) (λ e. Refused level_size n need word work after e)
-      → MatchResult r (λ f. (a.refusal ≡ 0) × (a.message ≡ f.message) × (a.agreement ≡ level_weight f.reading)) (λ e. a ≡ refused e)
+      → IsAnswerTo r a
       → WordSearched n rows need word work after a
   to_answer (Ok f) h k = record {
     answer = subst (λ (o : Option Refusal). AnswerTo rows (map level_weight word) o a) (sym h.taken)
@@ -59,3 +56,18 @@ module _ (j n : ℕ) (rows : List ℕ) (need : ℕ) (words work now next : List 
         beyond = new.beyond ∙ done.beyond;
         untouched = λ no. new.untouched (λ e. no j (omega arith) (sym why ∙ e)) ∙ done.untouched (λ i k. no i (omega arith));
       }
+
+-- a call on a file's card, by the search with a finder of that card
+module _ (file : Result Card Refusal) (k : Card) (need_of : Card → ℕ) (n : ℕ) (rows : List ℕ) (need r : ℕ) where
+  pub card_number : (readings answers : ℕ) → file ≡ Ok k → IsFinderOf k need_of n rows need → r ≡ words_number n readings answers → r ≡ call_number file readings answers
+  card_number readings answers e f v =
+      subst (λ (s : Result Card Refusal). r ≡ call_number s readings answers) (sym e)
+      (subst (λ (m : ℕ). r ≡ words_number m readings answers) f.same_length v)
+
+  pub card_left : (words work after : List Level) (old new : List Answer) → file ≡ Ok k → IsFinderOf k need_of n rows need
+      → WordsLeft r n rows need words work after old new → CardLeft file need_of r words work after old new
+  card_left words work after old new e f v =
+      subst (λ (s : Result Card Refusal). CardLeft s need_of r words work after old new) (sym e)
+      (subst (λ (m : ℕ). WordsLeft r m (rows_of k) (need_of k) words work after old new) f.same_length
+      (subst (λ (l : List ℕ). WordsLeft r n l (need_of k) words work after old new) f.all_rows
+      (subst (λ (m : ℕ). WordsLeft r n rows m words work after old new) f.same_need v)))
