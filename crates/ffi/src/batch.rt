@@ -1,5 +1,4 @@
 ghost use Rattle.std.specs.Prelude.{◌≡◌, ℕ, ◌*◌, length, Ok, Err, MatchResult, ◌==◌};
-ghost use Rattle.std.specs.Fn.{FnOnceReturnsAt};
 ghost use Rattle.card.specs.Cards.{Card};
 ghost use Rattle.card.specs.Tables.{card_of};
 ghost use Rattle.card_file.specs.Files.{read_card_lem};
@@ -75,7 +74,7 @@ pub(crate) fn need_with<F: Finder + Drop, M: FnOnce(&FinishedCard) -> F>(
 ) -> usize
     ghost need: { Card → ℕ }
     requires callable { M.IsAlwaysCallable make }
-    requires makes { (k : FinishedCard) (f : F) → FnOnceReturnsAt M.FnOnce make k f → IsFinderOf (card_of k.table) need (F.Finder.span f) (F.Finder.rows f) (F.Finder.need f) }
+    requires makes { (k : _) (f : F) → M.post make k f → IsFinderOf (card_of k.now.table) need (F.Finder.span f) (F.Finder.rows f) (F.Finder.need f) }
     ensures { result ≡ need_in need (read_card_lem bytes.now) }
 {
     let Ok(card) = card_of(bytes) else {
@@ -94,7 +93,7 @@ pub(crate) fn search_with<F: Finder + Drop, M: FnOnce(&FinishedCard) -> F>(
 ) -> Result<(), Refusal>
     ghost need: { Card → ℕ }
     requires callable { M.IsAlwaysCallable make }
-    requires makes { (k : FinishedCard) (f : F) → FnOnceReturnsAt M.FnOnce make k f → IsFinderOf (card_of k.table) need (F.Finder.span f) (F.Finder.rows f) (F.Finder.need f) }
+    requires makes { (k : _) (f : F) → M.post make k f → IsFinderOf (card_of k.now.table) need (F.Finder.span f) (F.Finder.rows f) (F.Finder.need f) }
     ensures value { numbered result ≡ call_number (read_card_lem bytes.now) (length words.old) (length answers.old) }
     ensures same { words.new ≡ words.old }
     ensures left { CardLeft (read_card_lem bytes.now) need (numbered result) words.old work.old work.new answers.old answers.new }
