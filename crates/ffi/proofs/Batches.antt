@@ -1,46 +1,20 @@
 -- Words searched one after the other.
-use Rattle.std.proofs.Common.{◌≡◌, ℕ, ◌+◌, ◌*◌, ◌<◌, ◌≤◌, ◌≢◌, List, ◌++◌, map, length, get_or, take, drop, set, Ok, Err, Option, Result, sym, ap, ◌∙◌, subst, ⊎_elim, mul-le-mul_right, add-mul, arith, MatchResult}
+use Rattle.std.proofs.Common.{◌≡◌, ℕ, ◌+◌, ◌<◌, ◌≤◌, ◌≢◌, List, ◌++◌, map, length, get_or, take, drop, set, Option, sym, ap, ◌∙◌, subst, ⊎_elim, arith}
 use borrow.Rule.Slice.PartMut.{put_mid}
 use Rattle.std.proofs.lemmas.List.{take-append-drop, get_or-set_same, get_or-set_other}
 use Rattle.std.proofs.lemmas.Bool.{cases_lt}
 use Rattle.code.specs.declared.refusal.Refusal.{Refusal}
 use Rattle.code.specs.declared.refusal.Refusal.TheVariants.{WordLengthDiffers}
-use Rattle.finder.specs.declared.found.Found.{Found}
-use Rattle.finder.specs.Search.{Answered, Refused, refusal}
+use Rattle.finder.specs.Search.{refusal}
 use Rattle.reading.specs.declared.level.Level.{Level}
 use Rattle.reading.specs.Kinds.{level_weight, level_size}
 use Rattle.ffi.specs.declared.answer.Answer.{Answer}
 use Rattle.ffi.specs.Batch.{AnswerTo, SearchedFirst, WordSearched, refused, reason, word_at}
-use Rattle.code.specs.Words.{Best, agrees}
 
 -- a part written back as it was
 pub put_same : {X : Type 0} (a k : ℕ) (xs ys : List X) → ys ≡ take k (drop a xs) → put_mid a k xs ys ≡ xs
 put_same a k xs ys e =
     ap (λ z. take a xs ++ (z ++ drop k (drop a xs))) e ∙ ap (λ z. take a xs ++ z) (take-append-drop k (drop a xs)) ∙ take-append-drop a xs
-
--- the room of word j
-pub room : (j count n : ℕ) → j < count → j * n + n ≤ count * n
-room j count n l = let e = add-mul j 1 n in let h : (j + 1) * n ≤ count * n = mul-le-mul_right n (omega arith) in omega arith
-
-module _ (n : ℕ) (rows : List ℕ) (need : ℕ) (word work after : List Level) (a : Answer) where
-  why : Option Refusal
-  why = refusal n need (map level_size word) (length work)
-
-  pub to_answer : (r : Result (Found Level) Refusal)
-      → MatchResult r (λ f. Answered level_weight level_size n rows need word work after f.message f.reading) (λ e. Refused level_size n need word work after e)
-      → MatchResult r (λ f. (a.refusal ≡ 0) × (a.message ≡ f.message) × (a.agreement ≡ level_weight f.reading)) (λ e. a ≡ refused e)
-      → WordSearched n rows need word work after a
-  to_answer (Ok f) h k = record {
-    answer = subst (λ (o : Option Refusal). AnswerTo rows (map level_weight word) o a) (sym h.taken)
-        (k.0, subst (Best rows (map level_weight word)) (sym k.1) h.is_best, k.2 ∙ h.weighs ∙ ap (agrees rows (map level_weight word)) (sym k.1));
-    beyond = h.beyond;
-    untouched = λ no. elim (no h.taken) [ ];
-  }
-  to_answer (Err e) h k = record {
-    answer = subst (λ (o : Option Refusal). AnswerTo rows (map level_weight word) o a) (sym h.reason) k;
-    beyond = ap (drop need) h.untouched;
-    untouched = λ _. h.untouched;
-  }
 
 module _ (j n : ℕ) (rows : List ℕ) (need : ℕ) (words work now next : List Level) (answers : List Answer) (a : Answer) where
   pub one_more : j < length answers → length now ≡ length work → SearchedFirst j n rows need words work now answers → WordSearched n rows need (word_at n words j) now next a

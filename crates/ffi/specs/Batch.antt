@@ -1,11 +1,12 @@
 -- Many words searched by one call.
-use Rattle.std.specs.Prelude.{◌≡◌, ℕ, zero, suc, ◌*◌, ◌<◌, cond, List, map, length, take, drop, ℤ, pos, Some, None, Ok, Err, Option, Result, ◌==◌, ◌≢◌, slice_index_or}
+use Rattle.std.specs.Prelude.{◌≡◌, ℕ, zero, suc, ◌*◌, ◌<◌, cond, List, map, length, take, drop, ℤ, pos, Some, None, Ok, Err, Option, Result, MatchResult, ◌==◌, ◌≢◌, slice_index_or}
 use Rattle.code.specs.declared.refusal.Refusal.{Refusal}
 use Rattle.code.specs.declared.refusal.Refusal.TheVariants.{WordLengthDiffers}
 use Rattle.code.specs.Refusals.{number_of}
 use Rattle.code.specs.Words.{Best, agrees}
 use Rattle.card.specs.Cards.{Card, rows_of}
 use Rattle.finder.specs.Search.{refusal}
+use Rattle.finder.specs.declared.found.Found.{Found}
 use Rattle.reading.specs.declared.level.Level.{Level}
 use Rattle.reading.specs.Kinds.{level_weight, level_size}
 use Rattle.ffi.specs.declared.answer.Answer.{Answer}
@@ -18,6 +19,10 @@ refused e = record { refusal = number_of e; message = 0; agreement = pos 0 }
 abbrev pub AnswerTo : List ℕ → List ℤ → Option Refusal → Answer → Type 0
 AnswerTo rows weights None a = (a.refusal ≡ 0) × Best rows weights a.message × (a.agreement ≡ agrees rows weights a.message)
 AnswerTo rows weights (Some e) a = a ≡ refused e
+
+-- what a search gave, as an answer
+abbrev pub IsAnswerTo : Result (Found Level) Refusal → Answer → Type 0
+IsAnswerTo res a = MatchResult res (λ f. (a.refusal ≡ 0) × (a.message ≡ f.message) × (a.agreement ≡ level_weight f.reading)) (λ e. a ≡ refused e)
 
 -- word j of words of n readings that lie one after the other
 abbrev pub word_at : ℕ → List Level → ℕ → List Level
@@ -50,6 +55,12 @@ words_number n readings answers = cond (readings == answers * n) 0 (number_of Wo
 abbrev pub WordsLeft : ℕ → (n : ℕ) (rows : List ℕ) (need : ℕ) (words work after : List Level) (old new : List Answer) → Type 0
 WordsLeft zero n rows need words work after old new = Searched n rows need words work after new
 WordsLeft (suc r) n rows need words work after old new = (after ≡ work) × (new ≡ old)
+
+-- the length, the rows and the need of a finder of all rows of the card, whose need is such a need of the card
+pub record IsFinderOf (k : Card) (need_of : Card → ℕ) (n : ℕ) (rows : List ℕ) (need : ℕ) : Type 0 where
+  pub same_length : n ≡ k.len
+  pub all_rows : rows ≡ rows_of k
+  pub same_need : need ≡ need_of k
 
 -- such a need of the card in a file, or 0 where there is none
 abbrev pub need_in : (Card → ℕ) → Result Card Refusal → ℕ

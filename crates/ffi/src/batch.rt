@@ -1,46 +1,24 @@
-ghost use Rattle.std.specs.Prelude.{◌≡◌, ◌*◌, length, Ok, Err, MatchResult, ◌==◌};
+ghost use Rattle.std.specs.Prelude.{◌≡◌, ℕ, ◌*◌, length, Ok, Err, MatchResult, ◌==◌};
+ghost use Rattle.card.specs.Cards.{Card};
 ghost use Rattle.card.specs.Tables.{card_of};
 ghost use Rattle.card_file.specs.Files.{read_card_lem};
-ghost use Rattle.reading.specs.Kinds.{level_weight};
-ghost use Rattle.ffi.specs.Batch.{Searched, WordSearched, WordsLeft, refused, words_number};
+ghost use Rattle.ffi.specs.Batch.{CardLeft, IsFinderOf, Searched, WordSearched, WordsLeft, call_number, need_in, words_number};
+ghost use Rattle.ffi.specs.Numbered.{numbered};
 
 use crate::answer::Answer;
 use card::states::FinishedCard;
 use card_file::read::read_card;
 use code::refusal::Refusal;
 use finder::Finder;
-use finder::found::Found;
 use reading::level::Level;
 
 // The card that a file's bytes describe.
-pub(crate) fn card_of(bytes: &[u8]) -> Result<FinishedCard, Refusal>
+fn card_of(bytes: &[u8]) -> Result<FinishedCard, Refusal>
     ensures { MatchResult result (λ k. read_card_lem bytes.now ≡ Ok (card_of k.table)) (λ e. read_card_lem bytes.now ≡ Err e) }
 {
     let mut card = FinishedCard::new();
-    match read_card(bytes, &mut card) {
-        Ok(()) => Ok(card),
-        Err(refusal) => Err(refusal),
-    }
-}
-
-// What a search gave, as an answer.
-fn answer_of(res: Result<Found<Level>, Refusal>) -> Answer
-    ensures { MatchResult res
-        (λ f. (result.refusal ≡ 0) × (result.message ≡ f.message) × (result.agreement ≡ level_weight f.reading))
-        (λ e. result ≡ refused e) }
-{
-    match res {
-        Ok(found) => Answer {
-            refusal: 0,
-            message: found.message,
-            agreement: found.reading.value,
-        },
-        Err(refusal) => Answer {
-            refusal: refusal.number() as u32,
-            message: 0,
-            agreement: 0,
-        },
-    }
+    read_card(bytes, &mut card)?;
+    Ok(card)
 }
 
 // Searches one word.
@@ -48,10 +26,11 @@ fn search_word<F: Finder>(finder: &F, word: &mut [Level], work: &mut [Level]) ->
     ensures same { word.new ≡ word.old }
     ensures searched { WordSearched (F.Finder.span finder.now) (F.Finder.rows finder.now) (F.Finder.need finder.now) word.old work.old work.new result }
 {
-    answer_of(finder.search(word, work))
+    Answer::from(finder.search(word, work))
 }
 
 // Searches each word of n readings and writes its answer.
+// The words are cut by their number, since a proof knows nothing of the elements of a slice after `chunks_exact_mut` of it.
 fn search_words<F: Finder>(
     finder: &F,
     n: usize,
@@ -64,38 +43,61 @@ fn search_words<F: Finder>(
     ensures same { words.new ≡ words.old }
     ensures searched { Searched n (F.Finder.rows finder.now) (F.Finder.need finder.now) words.old work.old work.new answers.new }
 {
-    for j in 0..answers.len() {
-        let from = j * n;
-        answers[j] = search_word(finder, &mut words[from..from + n], work);
+    for (j, answer) in answers.iter_mut().enumerate() {
+        *answer = search_word(finder, &mut words[j * n..j * n + n], work);
     }
 }
 
-// Whether so many readings are as many words of n readings as there are answers.
-fn are_words(readings: usize, answers: usize, n: usize) -> bool
-    ensures { result ≡ (readings == answers * n) }
-{
-    match answers.checked_mul(n) {
-        Some(all) => readings == all,
-        None => false,
-    }
-}
-
-// Searches all the words, or tells by the number 13 that the readings are not as many words as there are answers.
-pub(crate) fn search_all<F: Finder>(
+// Searches all the words, or turns them down where the readings are not as many words as there are answers.
+fn search_all<F: Finder>(
     finder: &F,
     words: &mut [Level],
     work: &mut [Level],
     answers: &mut [Answer],
-) -> u8
-    ensures value { result ≡ words_number (F.Finder.span finder.now) (length words.old) (length answers.old) }
+) -> Result<(), Refusal>
+    ensures value { numbered result ≡ words_number (F.Finder.span finder.now) (length words.old) (length answers.old) }
     ensures same { words.new ≡ words.old }
-    ensures left { WordsLeft result (F.Finder.span finder.now) (F.Finder.rows finder.now) (F.Finder.need finder.now) words.old work.old work.new answers.old answers.new }
+    ensures left { WordsLeft (numbered result) (F.Finder.span finder.now) (F.Finder.rows finder.now) (F.Finder.need finder.now) words.old work.old work.new answers.old answers.new }
 {
     let n = finder.length().places();
-    if are_words(words.len(), answers.len(), n) {
-        search_words(finder, n, words, work, answers);
-        0
-    } else {
-        Refusal::WordLengthDiffers.number()
+    if answers.len().checked_mul(n) != Some(words.len()) {
+        return Err(Refusal::WordLengthDiffers);
     }
+    search_words(finder, n, words, work, answers);
+    Ok(())
+}
+
+// How many levels of work memory the finder that `make` makes of a file's card needs, or 0 where the file is refused.
+pub(crate) fn need_with<F: Finder + Drop, M: FnOnce(&FinishedCard) -> F>(
+    bytes: &[u8],
+    make: M,
+) -> usize
+    ghost need: { Card → ℕ }
+    requires callable { M.IsAlwaysCallable make }
+    requires makes { (k : _) (f : F) → M.post make k f → IsFinderOf (card_of k.now.table) need (F.Finder.span f) (F.Finder.rows f) (F.Finder.need f) }
+    ensures { result ≡ need_in need (read_card_lem bytes.now) }
+{
+    let Ok(card) = card_of(bytes) else {
+        return 0;
+    };
+    make(&card).need()
+}
+
+// Searches words that lie one after the other with the finder that `make` makes of a file's card.
+pub(crate) fn search_with<F: Finder + Drop, M: FnOnce(&FinishedCard) -> F>(
+    bytes: &[u8],
+    make: M,
+    words: &mut [Level],
+    work: &mut [Level],
+    answers: &mut [Answer],
+) -> Result<(), Refusal>
+    ghost need: { Card → ℕ }
+    requires callable { M.IsAlwaysCallable make }
+    requires makes { (k : _) (f : F) → M.post make k f → IsFinderOf (card_of k.now.table) need (F.Finder.span f) (F.Finder.rows f) (F.Finder.need f) }
+    ensures value { numbered result ≡ call_number (read_card_lem bytes.now) (length words.old) (length answers.old) }
+    ensures same { words.new ≡ words.old }
+    ensures left { CardLeft (read_card_lem bytes.now) need (numbered result) words.old work.old work.new answers.old answers.new }
+{
+    let card = card_of(bytes)?;
+    search_all(&make(&card), words, work, answers)
 }

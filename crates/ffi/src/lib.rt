@@ -6,17 +6,27 @@ mod batch;
 ghost use Rattle.std.specs.Prelude.{◌≡◌, length, sum_by};
 ghost use Rattle.card_file.specs.Files.{read_card_lem};
 ghost use Rattle.card_finder.specs.Whole.{group_need_of, plain_need_of};
-ghost use Rattle.reading.specs.Kinds.{level_weight, level_size};
-ghost use Rattle.hadamard.specs.Transform.{Transformed, verdict};
+ghost use Rattle.reading.specs.Kinds.{level_size};
+ghost use Rattle.hadamard.specs.Transform.{verdict};
 ghost use Rattle.ffi.specs.Batch.{CardLeft, call_number, need_in};
 ghost use Rattle.ffi.specs.Numbered.{numbered, Left};
 
 use crate::answer::Answer;
-use crate::batch::{card_of, search_all};
+use crate::batch::{need_with, search_with};
 use card_finder::{group_finder, plain_finder};
-use finder::Finder;
+use code::refusal::Refusal;
 use hadamard::transform;
 use reading::level::Level;
+
+// 0, or the number of the refusal: C knows refusals by their numbers.
+fn number(answer: Result<(), Refusal>) -> u8
+    ensures { result ≡ numbered answer }
+{
+    match answer {
+        Ok(()) => 0,
+        Err(refusal) => refusal.number(),
+    }
+}
 
 // The transform, in place, of a list of levels that C or Rust lends: answers 0, or the number of the refusal.
 #[unsafe(no_mangle)]
@@ -24,10 +34,7 @@ pub extern "C" fn yalknobi_transform(list: &mut [Level]) -> u8
     ensures value { result ≡ numbered (verdict (length list.old) (sum_by level_size list.old)) }
     ensures list { Left result list.old list.new }
 {
-    match transform(list) {
-        Ok(()) => 0,
-        Err(refusal) => refusal.number(),
-    }
+    number(transform(list))
 }
 
 // How many levels of work memory `yalknobi_plain_search` needs for a card file, or 0 where the file is refused.
@@ -35,10 +42,7 @@ pub extern "C" fn yalknobi_transform(list: &mut [Level]) -> u8
 pub extern "C" fn yalknobi_plain_need(card: &[u8]) -> usize
     ensures { result ≡ need_in plain_need_of (read_card_lem card.now) }
 {
-    match card_of(card) {
-        Ok(card) => plain_finder(&card).need(),
-        Err(_) => 0,
-    }
+    need_with(card, plain_finder)
 }
 
 // How many levels of work memory `yalknobi_group_search` needs for a card file, or 0 where the file is refused.
@@ -46,10 +50,7 @@ pub extern "C" fn yalknobi_plain_need(card: &[u8]) -> usize
 pub extern "C" fn yalknobi_group_need(card: &[u8]) -> usize
     ensures { result ≡ need_in group_need_of (read_card_lem card.now) }
 {
-    match card_of(card) {
-        Ok(card) => group_finder(&card).need(),
-        Err(_) => 0,
-    }
+    need_with(card, group_finder)
 }
 
 // Searches words that lie one after the other, by all rows of a card file, with the plain finder below its coset layers.
@@ -65,10 +66,7 @@ pub extern "C" fn yalknobi_plain_search(
     ensures words { words.new ≡ words.old }
     ensures left { CardLeft (read_card_lem card.now) plain_need_of result words.old work.old work.new answers.old answers.new }
 {
-    match card_of(card) {
-        Ok(card) => search_all(&plain_finder(&card), words, work, answers),
-        Err(reason) => reason.number(),
-    }
+    number(search_with(card, plain_finder, words, work, answers))
 }
 
 // The same with the group finder below the coset layers.
@@ -83,8 +81,5 @@ pub extern "C" fn yalknobi_group_search(
     ensures words { words.new ≡ words.old }
     ensures left { CardLeft (read_card_lem card.now) group_need_of result words.old work.old work.new answers.old answers.new }
 {
-    match card_of(card) {
-        Ok(card) => search_all(&group_finder(&card), words, work, answers),
-        Err(reason) => reason.number(),
-    }
+    number(search_with(card, group_finder, words, work, answers))
 }

@@ -1,22 +1,8 @@
-use Rattle.std.proofs.Common.{◌≡◌, ℕ, ◌+◌, ◌-◌, ◌*◌, ◌≤◌, List, length, take, drop, sym, ap, ◌∙◌, subst, arith, rules}
+use Rattle.std.proofs.Common.{◌≡◌, ℕ, ◌+◌, ◌-◌, ◌*◌, List, take, drop, sym, ap, ◌∙◌, subst, arith}
 use Rattle.reading.specs.declared.level.Level.{Level}
 use Rattle.ffi.specs.Batch.{WordSearched}
-use Rattle.ffi.proofs.Batches.{one_more, put_same, room}
+use Rattle.ffi.proofs.Batches.{one_more, put_same}
 use Rattle.ffi.proofs.batch.search_words.Goals as goal
-
-pub offset_bounds-words-from : goal.offset_bounds-words-from
-offset_bounds-words-from g c =
-    let r = room c.loop-j.j (length c.args.answers.now) c.args.n c.loop-j-test.true in
-    let l = c.loop-j.auto.words ∙ c.requires.long in
-    let h : c.loop-j.j * c.args.n ≤ length c.loop-j.words = omega arith in
-    search rules
-
-pub slice_bounds-search_word-end : goal.slice_bounds-search_word-end
-slice_bounds-search_word-end g c =
-    let r = room c.loop-j.j (length c.args.answers.now) c.args.n c.loop-j-test.true in
-    let l = c.loop-j.auto.words ∙ c.requires.long in
-    let h : c.loop-j.j * c.args.n + c.args.n ≤ length c.loop-j.words = omega arith in
-    h
 
 pub loop-j-preserved : goal.loop-j-preserved
 loop-j-preserved g c =
