@@ -86,19 +86,6 @@ fn table_of(rows: &[u64], count: usize) -> [u64; 16]
     table
 }
 
-// The plain finder of the first `count` rows of a card, which are those of its group and transform sections.
-fn first_rows(card: &FinishedCard, count: usize) -> PlainFinder
-    requires { count ≡ length (card_of card.now.table).group + length (card_of card.now.table).transform }
-    ensures length { result.length.places ≡ (card_of card.now.table).len }
-    ensures rows { take result.count result.rows ≡ (card_of card.now.table).group ++ (card_of card.now.table).transform }
-{
-    PlainFinder {
-        length: card.word_length(),
-        rows: table_of(card.rows(), count),
-        count,
-    }
-}
-
 impl PlainFinder {
     // The plain finder of a card's group and transform rows.
     pub fn new(card: &FinishedCard) -> PlainFinder
@@ -107,7 +94,12 @@ impl PlainFinder {
     {
         let group = card.section_rows(Section::Group).len();
         let transform = card.section_rows(Section::Transform).len();
-        first_rows(card, group + transform)
+        let count = group + transform;
+        PlainFinder {
+            length: card.word_length(),
+            rows: table_of(card.rows(), count),
+            count,
+        }
     }
 
     // The rows, in their order.
