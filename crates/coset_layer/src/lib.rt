@@ -31,7 +31,7 @@ pub struct CosetLayer<F> {
     own: Rows<4>,
 }
 
-// The digits of a row at the first `n` places.
+// The digits of a row at the first `n` places; 2^64 is no u64, so all 64 are a case of their own.
 fn first_digits(row: u64, n: usize) -> u64
     requires { n ≤ max_places }
     ensures { result ≡ row % 2 ^ n }
@@ -60,6 +60,7 @@ fn negate_at<R: Reading>(word: &mut [R], mask: u64)
     ensures sizes { map R.Reading.size word.new ≡ map R.Reading.size word.old }
     ensures weights { map R.Reading.weight word.new ≡ negated_at (map R.Reading.weight word.old) mask }
 {
+    // Not `mask >> i`, which asks that the word has at most 64 places.
     let mut rest = mask;
     for x in word.iter_mut() {
         if rest % 2 == 1 {

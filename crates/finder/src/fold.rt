@@ -36,7 +36,9 @@ fn column_of(rows: &[u64], i: usize) -> usize
     ensures { result ≡ column (take column_rows rows.now) i }
 {
     let few = &rows[..rows.len().min(COLUMN_ROWS)];
-    few.iter().rev().fold(0, |c, row| c << 1 | (row >> i) as usize % 2)
+    few.iter()
+        .rev()
+        .fold(0, |c, row| c << 1 | (row >> i) as usize % 2)
 }
 
 // The first place of a size above the limit.

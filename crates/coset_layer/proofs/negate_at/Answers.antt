@@ -1,19 +1,11 @@
 use Rattle.std.proofs.Common.{◌≡◌, ◌<◌, ◌≤◌, true, false, List, map, length, sym, ap, ◌∙◌, subst, arith, rules}
 use Rattle.std.specs.List.{AllByRecursion}
-use Rattle.std.proofs.ByRecursion.{All-get_or}
 use Rattle.code.specs.Limits.{sum_limit}
 use Rattle.code.specs.Words.{odd}
 use Rattle.coset_layer.specs.Pile.{opposite_at}
-use Rattle.coset_layer.proofs.Opposites.{opposite_step, rest_step, rest_same, opposite_done, weights_at, sizes_at, small_at, twice_at}
+use Rattle.coset_layer.proofs.Opposites.{opposite_step, rest_step, opposite_done, weights_at, sizes_at, small_at, twice_at}
 use Rattle.coset_layer.proofs.negate_at.Goals as goal
 use Rattle.coset_layer.proofs.negate_at.Goals.{then-rest-eq1, else-rest-eq1}
-
-pub negate-requires : goal.negate-requires
-negate-requires g c =
-    let size = g.R.Reading.size in
-    let same = rest_same c.loop-x.word c.args.word.now c.loop-x.x-index c.x-item.result c.loop-x.invariant.0 in
-    let small = All-get_or (λ x. size x ≤ sum_limit) c.args.word.now c.loop-x.x-index c.x-item.result c.loop-x-test.true c.requires in
-    subst (λ x. size x ≤ sum_limit) (sym same) small
 
 pub loop-x-preserved : goal.loop-x-preserved
 loop-x-preserved g c =

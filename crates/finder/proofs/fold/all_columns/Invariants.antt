@@ -1,4 +1,4 @@
-use Rattle.std.proofs.Common.{◌≡◌, ℕ, ◌<◌, length, get_or, take}
+use Rattle.std.proofs.Common.{◌≡◌, ℕ, ◌<◌, get_or, take}
 use Rattle.finder.specs.Fold.{column, column_rows}
 use Rattle.finder.proofs.fold.all_columns.Given as goal
 

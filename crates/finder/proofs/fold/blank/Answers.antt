@@ -1,4 +1,4 @@
-use Rattle.std.proofs.Common.{◌<◌, length, pos, sum_by, sym, ap, ◌∙◌, arith, take_all, below_more}
+use Rattle.std.proofs.Common.{◌<◌, length, pos, ap, ◌∙◌, arith, below_more}
 use Rattle.hadamard.proofs.Entries.{same_at, other_at}
 use Rattle.finder.proofs.Folds.{blank_more}
 use Rattle.finder.proofs.fold.blank.Goals as goal

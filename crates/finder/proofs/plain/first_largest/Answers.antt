@@ -1,11 +1,11 @@
-use Rattle.std.proofs.Common.{◌≡◌, ℕ, ◌+◌, ◌-◌, ◌<◌, length, take, drop, get_or, pos, sym, subst, ap, ◌∙◌, arith, take_all}
+use Rattle.std.proofs.Common.{◌≡◌, ℕ, ◌+◌, ◌-◌, ◌<◌, length, drop, get_or, pos, sym, ap, ◌∙◌, arith, take_all}
 use lib.Signed.{lt_z}
 use Rattle.std.proofs.lemmas.Int.{ints}
 use Rattle.std.proofs.lemmas.List.{get_or-drop, length-drop}
 use Rattle.code.specs.Words.{Top}
 use Rattle.hadamard.specs.Transform.{weight_at}
 use Rattle.hadamard.proofs.Entries.{read_at}
-use Rattle.finder.proofs.Picks.{picked, less, not_less, largest_takes, largest_keeps, largest_first}
+use Rattle.finder.proofs.Picks.{picked, less, not_less, largest_takes, largest_keeps}
 use Rattle.finder.proofs.plain.first_largest.Goals as goal
 
 pub loop-i-preserved : goal.loop-i-preserved
