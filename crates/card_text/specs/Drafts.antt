@@ -6,7 +6,6 @@ use Rattle.code.specs.declared.refusal.Refusal.{Refusal}
 use Rattle.code.specs.declared.refusal.Refusal.TheVariants.{LengthOutOfRange}
 use Rattle.code.specs.Limits.{max_places}
 use Rattle.card.specs.Cards.{Card, blank, pushed, verdict}
-use Rattle.card.specs.Tables.{card_of}
 use Rattle.card_text.specs.declared.draft.Draft.{Draft}
 use Rattle.card_text.specs.declared.draft.Draft.TheVariants.{Unset, Open}
 use Rattle.card_text.specs.declared.draft.OpenCard.{OpenCard}
@@ -109,10 +108,10 @@ open_of (InTransform k) = Transform
 open_of (InCoset k) = Coset
 
 abbrev pub shown_of : OpenCard → Card
-shown_of (InGroup k) = card_of k.table
-shown_of (InTransform k) = card_of k.table
-shown_of (InCoset k) = card_of k.table
+shown_of (InGroup k) = k
+shown_of (InTransform k) = k
+shown_of (InCoset k) = k
 
 abbrev pub stage_of : Draft → Stage
 stage_of Unset = unset
-stage_of (Open len k) = taking len.places (open_of k) (shown_of k)
+stage_of (Open len k) = taking len (open_of k) (shown_of k)

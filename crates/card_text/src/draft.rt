@@ -1,7 +1,6 @@
 // The card that the lines of a text have described so far.
 ghost use Rattle.std.specs.Prelude.{◌≡◌, Ok, Err, MatchResult};
 ghost use Rattle.card.specs.Cards.{pushed, verdict};
-ghost use Rattle.card.specs.Tables.{card_of};
 ghost use Rattle.card_text.specs.Lines.{decimal_of_lem};
 ghost use Rattle.card_text.specs.Drafts.{finished, length_read, open_of, reopened, row_added, shown_of, stage_of, started};
 
@@ -79,7 +78,7 @@ fn move_to(card: OpenCard, section: Section) -> Result<OpenCard, Problem>
 
 // The same card taking coset rows.
 fn in_coset(card: OpenCard) -> CosetCard
-    ensures { card_of result.table ≡ shown_of card }
+    ensures { result ≡ shown_of card }
 {
     match card {
         OpenCard::InGroup(group) => group.close_group().close_transform(),
@@ -110,7 +109,7 @@ fn take_row(card: OpenCard, row: u64) -> Result<OpenCard, Refusal>
 
 // The card that a draft describes, taking no more rows.
 pub(crate) fn finish(draft: Draft) -> Result<FinishedCard, Problem>
-    ensures { MatchResult result (λ k. Ok (card_of k.table) ≡ finished (stage_of draft)) (λ e. Err e ≡ finished (stage_of draft)) }
+    ensures { MatchResult result (λ k. Ok k ≡ finished (stage_of draft)) (λ e. Err e ≡ finished (stage_of draft)) }
 {
     let Draft::Open(_, card) = draft else {
         return Err(Problem::LengthMissing);

@@ -142,7 +142,7 @@ fn row_of(digits: &[u8]) -> u64
 
 // The row that a line of a section describes.
 pub(crate) fn read_row(length: WordLength, section: Section, digits: &[u8]) -> Result<u64, Problem>
-    ensures { result ≡ row_read length.places section digits.now }
+    ensures { result ≡ row_read length section digits.now }
 {
     let places = length.places();
     if digits.len() != places {

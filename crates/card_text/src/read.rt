@@ -1,5 +1,4 @@
 ghost use Rattle.std.specs.Prelude.{◌≡◌, IfOk, Ok, Err, MatchResult, OnErr, OnOk};
-ghost use Rattle.card.specs.Tables.{card_of};
 ghost use Rattle.card_text.specs.Lines.{trimmed};
 ghost use Rattle.card_text.specs.Sayings.{card_says, text_says};
 ghost use Rattle.card_text.specs.Drafts.{entry_read, in_line, line_read, noted, read_text_lem, refilled, stage_of};
@@ -13,9 +12,9 @@ use card::states::FinishedCard;
 // is taken give the card's length and its rows, in their order, and nothing else.
 pub fn read_text(bytes: &[u8], into: &mut FinishedCard) -> Result<(), TextFault>
     ensures answer { result ≡ noted (read_text_lem bytes.now) }
-    ensures card { card_of into.new.table ≡ refilled (read_text_lem bytes.now) (card_of into.old.table) }
+    ensures card { into.new ≡ refilled (read_text_lem bytes.now) into.old }
     ensures refused { OnErr result (into.new ≡ into.old) }
-    ensures says { OnOk result (text_says bytes.now ≡ card_says (card_of into.new.table)) }
+    ensures says { OnOk result (text_says bytes.now ≡ card_says into.new) }
 {
     let card = read_lines(bytes)?;
     *into = card;
@@ -25,8 +24,8 @@ pub fn read_text(bytes: &[u8], into: &mut FinishedCard) -> Result<(), TextFault>
 // The card that the lines of a text describe. The lines are counted beside the loop, since a fault at the end needs the
 // number of the last.
 fn read_lines(bytes: &[u8]) -> Result<FinishedCard, TextFault>
-    ensures answer { MatchResult result (λ k. Ok (card_of k.table) ≡ read_text_lem bytes.now) (λ e. Err e ≡ read_text_lem bytes.now) }
-    ensures says { IfOk result (λ k. text_says bytes.now ≡ card_says (card_of k.table)) }
+    ensures answer { MatchResult result (λ k. Ok k ≡ read_text_lem bytes.now) (λ e. Err e ≡ read_text_lem bytes.now) }
+    ensures says { IfOk result (λ k. text_says bytes.now ≡ card_says k) }
 {
     let mut draft = Draft::Unset;
     let mut count = 0;

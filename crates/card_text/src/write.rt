@@ -1,7 +1,6 @@
 ghost use Rattle.std.specs.Prelude.{◌≡◌, ◌+◌, ◌<◌, ◌≤◌, [], ◌∷◌, ◌++◌, length, take, IfOk, Ok};
 ghost use Rattle.code.specs.Limits.{max_places};
 ghost use Rattle.card.specs.Cards.{max_section_rows};
-ghost use Rattle.card.specs.Tables.{card_of};
 ghost use Rattle.card_file.specs.Files.{overwritten, wrote};
 ghost use Rattle.card_text.specs.Drafts.{read_text_lem};
 ghost use Rattle.card_text.specs.Texts.{decimal_text, digits_of, length_line, over, row_line, section_text, text_of};
@@ -22,18 +21,18 @@ const LINE_END: usize = 1;
 
 // Writes the card's text, or refuses where it does not fit. What is written is read back as the same card.
 pub fn write_text(card: &FinishedCard, out: &mut [u8]) -> Result<usize, Refusal>
-    ensures answer { result ≡ wrote (text_of (card_of card.now.table)) (length out.old) }
-    ensures bytes { out.new ≡ overwritten (text_of (card_of card.now.table)) out.old }
-    ensures back { IfOk result (λ end. read_text_lem (take end out.new) ≡ Ok (card_of card.now.table)) }
+    ensures answer { result ≡ wrote (text_of card.now) (length out.old) }
+    ensures bytes { out.new ≡ overwritten (text_of card.now) out.old }
+    ensures back { IfOk result (λ end. read_text_lem (take end out.new) ≡ Ok card.now) }
 {
     write_lines(card, out)
 }
 
 // The text, line by line.
 fn write_lines(card: &FinishedCard, out: &mut [u8]) -> Result<usize, Refusal>
-    ensures answer { result ≡ wrote (text_of (card_of card.now.table)) (length out.old) }
-    ensures bytes { out.new ≡ overwritten (text_of (card_of card.now.table)) out.old }
-    ensures back { IfOk result (λ end. read_text_lem (take end out.new) ≡ Ok (card_of card.now.table)) }
+    ensures answer { result ≡ wrote (text_of card.now) (length out.old) }
+    ensures bytes { out.new ≡ overwritten (text_of card.now) out.old }
+    ensures back { IfOk result (λ end. read_text_lem (take end out.new) ≡ Ok card.now) }
 {
     let places = card.word_length().places();
     let group = card.section_rows(Section::Group);

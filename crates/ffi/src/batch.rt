@@ -1,6 +1,5 @@
 ghost use Rattle.std.specs.Prelude.{◌≡◌, ℕ, ◌*◌, length, Ok, Err, MatchResult, ◌==◌};
 ghost use Rattle.card.specs.Cards.{Card};
-ghost use Rattle.card.specs.Tables.{card_of};
 ghost use Rattle.card_file.specs.Files.{read_card_lem};
 ghost use Rattle.ffi.specs.Batch.{CardLeft, IsFinderOf, Searched, WordSearched, WordsLeft, call_number, need_in, words_number};
 ghost use Rattle.ffi.specs.Numbered.{numbered};
@@ -14,7 +13,7 @@ use reading::level::Level;
 
 // The card that a file's bytes describe.
 fn card_of(bytes: &[u8]) -> Result<FinishedCard, Refusal>
-    ensures { MatchResult result (λ k. read_card_lem bytes.now ≡ Ok (card_of k.table)) (λ e. read_card_lem bytes.now ≡ Err e) }
+    ensures { MatchResult result (λ k. read_card_lem bytes.now ≡ Ok k) (λ e. read_card_lem bytes.now ≡ Err e) }
 {
     let mut card = FinishedCard::new();
     read_card(bytes, &mut card)?;
@@ -74,7 +73,7 @@ pub(crate) fn need_with<F: Finder + Drop, M: FnOnce(&FinishedCard) -> F>(
 ) -> usize
     ghost need: { Card → ℕ }
     requires callable { M.IsAlwaysCallable make }
-    requires makes { (k : _) (f : F) → M.post make k f → IsFinderOf (card_of k.now.table) need (F.Finder.span f) (F.Finder.rows f) (F.Finder.need f) }
+    requires makes { (k : _) (f : F) → M.post make k f → IsFinderOf k.now need (F.Finder.span f) (F.Finder.rows f) (F.Finder.need f) }
     ensures { result ≡ need_in need (read_card_lem bytes.now) }
 {
     let Ok(card) = card_of(bytes) else {
@@ -93,7 +92,7 @@ pub(crate) fn search_with<F: Finder + Drop, M: FnOnce(&FinishedCard) -> F>(
 ) -> Result<(), Refusal>
     ghost need: { Card → ℕ }
     requires callable { M.IsAlwaysCallable make }
-    requires makes { (k : _) (f : F) → M.post make k f → IsFinderOf (card_of k.now.table) need (F.Finder.span f) (F.Finder.rows f) (F.Finder.need f) }
+    requires makes { (k : _) (f : F) → M.post make k f → IsFinderOf k.now need (F.Finder.span f) (F.Finder.rows f) (F.Finder.need f) }
     ensures value { numbered result ≡ call_number (read_card_lem bytes.now) (length words.old) (length answers.old) }
     ensures same { words.new ≡ words.old }
     ensures left { CardLeft (read_card_lem bytes.now) need (numbered result) words.old work.old work.new answers.old answers.new }

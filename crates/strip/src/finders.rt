@@ -1,7 +1,6 @@
 // The two finders of a card.
 ghost use Rattle.std.specs.Prelude.{◌≡◌, ◌≤◌, length, MatchResult};
 ghost use Rattle.card.specs.Cards.{Card};
-ghost use Rattle.card.specs.Tables.{card_of};
 ghost use Rattle.strip.specs.Strips.{CardRun, Short};
 ghost use Rattle.strip.specs.Finders.{FindersOf, finder_of};
 
@@ -29,7 +28,7 @@ pub(crate) struct CardFinders {
 
 impl CardFinders {
     pub(crate) fn new(card: &FinishedCard) -> CardFinders
-        ensures { FindersOf (card_of card.now.table) result }
+        ensures { FindersOf card.now result }
     {
         CardFinders {
             plain: Either::First(plain_finder(card)),

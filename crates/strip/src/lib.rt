@@ -5,7 +5,6 @@ mod finders;
 
 ghost use Rattle.std.specs.Prelude.{◌≡◌, ◌<◌, ◌≤◌, ◌⊎◌, length, Err, MatchResult};
 ghost use Rattle.code.specs.declared.refusal.Refusal.TheVariants.{OutputShort};
-ghost use Rattle.card.specs.Tables.{card_of};
 ghost use Rattle.card_file.specs.FileRows.{RowsAsAdded};
 ghost use Rattle.card_file.specs.Files.{read_card_lem};
 ghost use Rattle.strip.specs.Strips.{BuiltRun, CardRun, FileRun, Short};
@@ -36,7 +35,7 @@ pub fn run_card<R: Reading>(
     answers: &mut [Answer<R>],
 ) -> Result<u32, Refusal>
     ensures law { MatchResult result
-        (λ count. CardRun R.Reading (card_of card.now.table) requests.now count cells.old cells.new work.old work.new answers.old answers.new)
+        (λ count. CardRun R.Reading card.now requests.now count cells.old cells.new work.old work.new answers.old answers.new)
         (Short (length requests.now) (length answers.old)) }
     ensures refused { MatchResult result (λ _. length requests.now ≤ length answers.old) (λ _. (cells.new ≡ cells.old) × (work.new ≡ work.old) × (answers.new ≡ answers.old)) }
 {
@@ -52,7 +51,7 @@ fn run_with<'q, R: Reading>(
     answers: &mut [Answer<R>],
 ) -> Result<u32, Refusal>
     ensures law { MatchResult result
-        (λ count. CardRun R.Reading (card_of card.now.table) requests.now count cells.old cells.new work.old work.new answers.old answers.new)
+        (λ count. CardRun R.Reading card.now requests.now count cells.old cells.new work.old work.new answers.old answers.new)
         (Short (length requests.now) (length answers.old)) }
     ensures refused { MatchResult result (λ _. length requests.now ≤ length answers.old) (λ _. (cells.new ≡ cells.old) × (work.new ≡ work.old) × (answers.new ≡ answers.old)) }
 {
@@ -72,7 +71,7 @@ pub fn run_built<R: Reading>(
     answers: &mut [Answer<R>],
 ) -> Result<u32, Refusal>
     ensures law { MatchResult result
-        (λ count. BuiltRun R.Reading len.places rows.now told.old told.new requests.now count cells.old cells.new work.old work.new answers.old answers.new)
+        (λ count. BuiltRun R.Reading len rows.now told.old told.new requests.now count cells.old cells.new work.old work.new answers.old answers.new)
         (λ e. Short (length requests.now) (length answers.old) e ⊎ Short (length rows.now) (length told.old) e) }
     ensures refused { MatchResult result
         (λ _. (length requests.now ≤ length answers.old) × (length rows.now ≤ length told.old))
@@ -91,7 +90,7 @@ fn build_and_run<R: Reading>(
     answers: &mut [Answer<R>],
 ) -> Result<u32, Refusal>
     ensures law { MatchResult result
-        (λ count. BuiltRun R.Reading len.places rows.now told.old told.new requests.now count cells.old cells.new work.old work.new answers.old answers.new)
+        (λ count. BuiltRun R.Reading len rows.now told.old told.new requests.now count cells.old cells.new work.old work.new answers.old answers.new)
         (λ e. Short (length requests.now) (length answers.old) e ⊎ Short (length rows.now) (length told.old) e) }
     ensures refused { MatchResult result
         (λ _. (length requests.now ≤ length answers.old) × (length rows.now ≤ length told.old))

@@ -2,7 +2,6 @@ use Rattle.std.proofs.Common.{◌≡◌, Bool, true, false, cond, ltb, ◌++◌,
 use Rattle.std.proofs.lemmas.List.{take_at}
 use Rattle.std.proofs.lemmas.Bool.{lt-ltb, le-ltb}
 use Rattle.card.specs.Cards.{Card}
-use Rattle.card.specs.Tables.{card_of}
 use Rattle.card_file.proofs.FileBytes.{card_is}
 use Rattle.card_text.specs.Drafts.{read_text_lem}
 use Rattle.card_text.specs.Texts.{text_of}
@@ -12,7 +11,7 @@ use Rattle.card_text.proofs.write.write_lines.Goals as goal
 
 pub returns-then-out-length_size : goal.returns-then-out-length_size
 returns-then-out-length_size c =
-    let k = card_of c.args.card.now.table in
+    let k = c.args.card.now in
     let out = c.args.out.now in
     let G = c.section_rows-group.result.now in
     let T = c.section_rows-transform.result.now in
@@ -26,7 +25,7 @@ returns-then-out-length_size c =
 
 pub returns : goal.returns
 returns c =
-    let k = card_of c.args.card.now.table in
+    let k = c.args.card.now in
     let out = c.args.out.now in
     let G = c.section_rows-group.result.now in
     let T = c.section_rows-transform.result.now in
