@@ -13,7 +13,7 @@ use Rattle.code.proofs.Spans.{independent_distinct}
 use Rattle.card.specs.Cards.{rows_of}
 use Rattle.sample.specs.declared.Sample.{Sample}
 use Rattle.sample.proofs.Faults.{first_good}
-use Rattle.reading.specs.declared.Reading.{Ghosts}
+use Rattle.reading.specs.declared.Reading.{Ghosts as Kind}
 use Rattle.finder.specs.declared.Finder.{Ghosts as FinderGhosts}
 use Rattle.finder.specs.declared.found.Found.{Found}
 use Rattle.sheet.specs.declared.Sheet.{Sheet}
@@ -53,7 +53,7 @@ module _ (rows : List ℕ) (n F m : ℕ) (within : (j : ℕ) → j < length rows
     | inr ne ↦ absurd (clash_ℤ (other_agreement j t.within ne) (subst (λ z. z ≤ℤ agrees rows totals j) own_agreement (t.greatest m low)))
   ]
 
-module _ {R : Type 0} (kind : Ghosts R) where
+module _ {R : Type 0} (kind : Kind R) where
   -- the totals that stand after the one pass
   pub once_totals : (n : ℕ) (h : List Call) (samples : List Sample) (c : ℕ) → (book_of kind.MAIN_UNIT kind.SECOND_UNIT n h).count ≡ 0 → length samples ≡ n → PlaysWord c samples →
       (book_of kind.MAIN_UNIT kind.SECOND_UNIT n (h ++ Pass samples ∷ [])).totals ≡ negated_at (replicate n (pos (full_label * kind.MAIN_UNIT))) c

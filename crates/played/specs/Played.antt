@@ -8,7 +8,7 @@ use Rattle.code.specs.declared.refusal.Refusal.TheVariants.{OutputShort, Message
 use Rattle.card.specs.Cards.{Card, Lawful, rows_of}
 use Rattle.sample.specs.declared.Sample.{Sample}
 use Rattle.sample.specs.declared.Sample.TheVariants.{Bit, Level}
-use Rattle.reading.specs.declared.Reading.{Ghosts}
+use Rattle.reading.specs.declared.Reading.{Ghosts as Kind}
 use Rattle.finder.specs.declared.Finder.{Ghosts as FinderGhosts}
 use Rattle.finder.specs.declared.found.Found.{Found}
 use Rattle.sheet.specs.declared.Sheet.{Sheet}
@@ -46,12 +46,12 @@ pub record Written (card : Card) (message levels : ℕ) (old new : List Sample) 
   pub rest : drop card.len new ≡ drop card.len old
 
 -- a search that found the message again, at the weight of full level at every one of n places
-abbrev pub FoundAgain : {R : Type 0} → Ghosts R → ℕ → ℕ → Result (Found R) Refusal → Type 0
+abbrev pub FoundAgain : {R : Type 0} → Kind R → ℕ → ℕ → Result (Found R) Refusal → Type 0
 FoundAgain kind n message r = (f : Found _) × (r ≡ Ok f) × (f.message ≡ message) × (kind.weight f.reading ≡ pos (n * full_label * kind.MAIN_UNIT))
 
 -- what was played once at full level from a card, to a sheet with no passes, is found again by a finder of the card's length and rows, given its need:
 -- h are the calls before the pass
-abbrev pub Again : {R F : Type 0} (kind : Ghosts R) → Sheet R → FinderGhosts F → F → (work : ℕ) → Result (Found R) Refusal → Type 0
+abbrev pub Again : {R F : Type 0} (kind : Kind R) → Sheet R → FinderGhosts F → F → (work : ℕ) → Result (Found R) Refusal → Type 0
 Again kind t by finder work r =
     (card : Card) (message : ℕ) (h : List Call) (samples : List Sample) →
     Lawful card → message < 2 ^ length (rows_of card) →

@@ -1,11 +1,11 @@
 -- One sample more is added.
 use Rattle.std.proofs.Common.{◌≡◌, ℕ, ◌+◌, ◌<◌, ◌≢◌, List, length, get_or, set, sym, ◌∙◌, subst, arith, below_more}
 use Rattle.std.proofs.lemmas.List.{get_or_read, get_or_default, get_or-set_same, get_or-set_other}
-use Rattle.reading.specs.declared.Reading.{Ghosts}
+use Rattle.reading.specs.declared.Reading.{Ghosts as Kind}
 use Rattle.sample.specs.declared.Sample.{Sample}
 use Rattle.sheet.specs.Cells.{Added, Grown}
 
-module _ {R : Type 0} (kind : Ghosts R) where
+module _ {R : Type 0} (kind : Kind R) where
   pub added_more : (ss : List Sample) (i : ℕ) (xs ys : List R) (a b : R) (x : Sample) → i < length ys → i < length ss → a ≡ get_or ys i a →
       Grown kind (get_or ss i x) a b → Added kind ss i xs ys → Added kind ss (i + 1) xs (set ys i b)
   added_more ss i xs ys a b x h hs read g ad =

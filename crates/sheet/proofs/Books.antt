@@ -7,7 +7,7 @@ use Rattle.std.proofs.lemmas.Bool.{cases_eq}
 use Rattle.code.specs.Limits.{max_places, full_label}
 use Rattle.code.specs.declared.refusal.Refusal.{Refusal}
 use Rattle.code.specs.declared.refusal.Refusal.TheVariants.{PlaceOffSheet}
-use Rattle.reading.specs.declared.Reading.{Ghosts}
+use Rattle.reading.specs.declared.Reading.{Ghosts as Kind}
 use Rattle.sample.specs.declared.Sample.{Sample}
 use Rattle.sample.specs.Samples.{answer}
 use Rattle.sample.proofs.Bounds.{main_bound, second_bound}
@@ -25,7 +25,7 @@ pub book_push : (m s n : ℕ) (h : List Call) (c : Call) → book_of m s n (h ++
 unfolding book_of
 book_push m s n h c = after_push m s (laid n) h c
 
-module _ {R : Type 0} (kind : Ghosts R) where
+module _ {R : Type 0} (kind : Kind R) where
   blank_totals : (xs : List R) → AllBlank kind xs → map kind.weight xs ≡ replicate (length xs) (pos 0)
   blank_totals [] z = refl
   blank_totals (x ∷ xs) z =

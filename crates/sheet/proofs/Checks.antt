@@ -3,7 +3,7 @@ use Rattle.std.proofs.Common.{◌≡◌, ℕ, ◌+◌, ◌*◌, ◌<◌, ◌≤�
 use Rattle.code.specs.Limits.{full_label}
 use Rattle.code.specs.declared.refusal.Refusal.{Refusal}
 use Rattle.code.specs.declared.refusal.Refusal.TheVariants.{PassLengthDiffers, TooManyPasses}
-use Rattle.reading.specs.declared.Reading.{Ghosts}
+use Rattle.reading.specs.declared.Reading.{Ghosts as Kind}
 use Rattle.sample.specs.declared.Sample.{Sample}
 use Rattle.sample.specs.Samples.{answer, first_fault, AllGood}
 use Rattle.sample.proofs.Faults.{first_good, first_bad}
@@ -38,7 +38,7 @@ pass_rule b ss r is = record {
   taken = λ l h g. is ∙ ap (λ o. answer o (b.count + 1)) (check_samples_lem (length b.totals) b.count ss l h ∙ first_good ss g);
 }
 
-module _ {R : Type 0} (kind : Ghosts R) where
+module _ {R : Type 0} (kind : Kind R) where
   -- a cell no larger than so many passes make it takes every good sample
   pub none_overgrown : (ss : List Sample) (cells : List R) (n : ℕ) (e : Refusal) → AllGood ss → n < max_passes → length ss ≡ length cells →
       ((k : ℕ) (d : R) → k < length cells → kind.size (get_or cells k d) ≤ full_label * n) → FirstOvergrown kind ss cells e → ⊥

@@ -7,10 +7,9 @@ use Rattle.code.specs.Limits.{max_places}
 use Rattle.code.specs.Words.{Best, agrees}
 use Rattle.code.proofs.Tops.{best_unique}
 use Rattle.code.specs.declared.refusal.Refusal.{Refusal}
-use Rattle.reading.specs.declared.Reading.{Ghosts}
-use Rattle.finder.specs.declared.Finder.{Ghosts as FinderGhosts}
+use Rattle.reading.specs.declared.Reading.{Ghosts as Kind}
 use Rattle.finder.specs.declared.found.Found.{Found}
-use Rattle.finder.specs.Search.{Answered, Refused}
+use Rattle.finder.specs.Search.{Meaning, Answered, Refused}
 use Rattle.sheet.specs.declared.Sheet.{Sheet}
 use Rattle.sheet.specs.declared.run.Request.{Request}
 use Rattle.sheet.specs.declared.run.Request.TheVariants as request
@@ -34,7 +33,7 @@ pub kept_same : {R : Type 0} {t u : Sheet R} → Same t u → Kept t u
 kept_same same = record { named = same.named; long = ap length same.cells; beyond = ap (drop max_places) same.cells }
 
 -- one request more spares what lies beyond its own need
-pub spared_more : {R F : Type 0} (by : FinderGhosts F) (reqs : List (Request F)) (i : ℕ) (os : List (Answer R)) (q : Request F) (a : Answer R) (xs ys zs : List R) → i < length reqs → i < length os → q ≡ get_or reqs i q →
+pub spared_more : {R F : Type 0} (by : F → Meaning) (reqs : List (Request F)) (i : ℕ) (os : List (Answer R)) (q : Request F) (a : Answer R) (xs ys zs : List R) → i < length reqs → i < length os → q ≡ get_or reqs i q →
     drop (used by q a) zs ≡ drop (used by q a) ys →
     Spared by reqs i os xs ys → Spared by reqs (i + 1) (set os i a) xs zs
 spared_more by reqs i os q a xs ys zs hr ha read one before b all =
@@ -44,7 +43,7 @@ spared_more by reqs i os q a xs ys zs hr ha read one before b all =
     drop_further (used by q a) b zs ys mine one
     ∙ before b (λ k d e hk. let ne : k ≢ i = omega arith in subst (λ x. used by (get_or reqs k d) x ≤ b) (get_or-set_other os i k a e ne) (all k d e (omega arith)))
 
-module _ {R F : Type 0} (kind : Ghosts R) (by : FinderGhosts F) (reqs : List (Request F)) where
+module _ {R F : Type 0} (kind : Kind R) (by : F → Meaning) (reqs : List (Request F)) where
   ran_more : (work : ℕ) (h : List Call) (i : ℕ) (t u v : Sheet R) (os : List (Answer R)) (q : Request F) (a : Answer R) → i < length reqs → i < length os → q ≡ get_or reqs i q →
       length (cells_of u) ≡ length (cells_of t) →
       Booked kind u v (call_of q) (λ b. AnswersTo kind by work b q a) →
@@ -81,29 +80,29 @@ module _ {R F : Type 0} (kind : Ghosts R) (by : FinderGhosts F) (reqs : List (Re
 -- ---- two searches
 
 -- what was found is the best message of those rows at those totals, and weighs its agreement
-pub record Finds {R : Type 0} (kind : Ghosts R) (rows : List ℕ) (totals : List ℤ) (x : Found R) : Type 0 where
+pub record Finds {R : Type 0} (kind : Kind R) (rows : List ℕ) (totals : List ℤ) (x : Found R) : Type 0 where
   pub best : Best rows totals x.message
   pub weighs : kind.weight x.reading ≡ agrees rows totals x.message
 
 -- two finds with the same rows at the same totals are the same
-same_finds : {R : Type 0} (kind : Ghosts R) (rows : List ℕ) (totals others : List ℤ) (x y : Found R) → totals ≡ others → Finds kind rows totals x → Finds kind rows others y →
+same_finds : {R : Type 0} (kind : Kind R) (rows : List ℕ) (totals others : List ℤ) (x y : Found R) → totals ≡ others → Finds kind rows totals x → Finds kind rows others y →
     (x.message ≡ y.message) × (kind.weight x.reading ≡ kind.weight y.reading)
 same_finds kind rows totals others x y e f g =
     let h : Finds kind rows totals y = subst (λ ws. Finds kind rows ws y) (sym e) g in
     let m = best_unique rows totals x.message y.message f.best h.best in
     (m, f.weighs ∙ ap (agrees rows totals) m ∙ sym h.weighs)
 
-module _ {R F : Type 0} (kind : Ghosts R) (by : FinderGhosts F) (work : ℕ) where
-  rule_found : (finder : F) (totals : List ℤ) (r : Result (Found R) Refusal) (x : Found R) → r ≡ Ok x → SearchRule kind by finder work totals r →
-      Finds kind (by.rows finder) totals x
+module _ {R F : Type 0} (kind : Kind R) (by : F → Meaning) (work : ℕ) where
+  rule_found : (finder : F) (totals : List ℤ) (r : Result (Found R) Refusal) (x : Found R) → r ≡ Ok x → SearchRule kind (by finder) work totals r →
+      Finds kind (by finder).rows totals x
   rule_found finder totals r x is rule =
-      elim (cases_eq (length totals) (by.span finder)) [
-        | inl e ↦ elim (cases_lt work (by.need finder)) [
+      elim (cases_eq (length totals) (by finder).span) [
+        | inl e ↦ elim (cases_lt work (by finder).need) [
           | inl short ↦ let bad : Ok x ≡ Err _ = sym is ∙ rule.work_short e short in absurd (no_ok x _ bad)
           | inr fits ↦
               let a = rule.answered e fits in
               let same : a.0 ≡ x = ok_is a.0 x (sym a.1 ∙ is) in
-              subst (λ f. Finds kind (by.rows finder) totals f) same (record { best = a.2; weighs = a.3 })
+              subst (λ f. Finds kind (by finder).rows totals f) same (record { best = a.2; weighs = a.3 })
         ]
         | inr ne ↦ let bad : Ok x ≡ Err _ = sym is ∙ rule.length_differs ne in absurd (no_ok x _ bad)
       ]
@@ -121,7 +120,7 @@ module _ {R F : Type 0} (kind : Ghosts R) (by : FinderGhosts F) (work : ℕ) whe
   answer_finds b request.Clear a w x s is ans = let z : ◌≡◌ {A = ℕ} 0 1 = cc in absurd (omega arith)
   answer_finds b (request.Search finder) a w x s is (r, ar, rule) =
       let found : r ≡ Ok x = cc in
-      let seek : by.rows finder.now ≡ w = cc in
+      let seek : (by finder.now).rows ≡ w = cc in
       subst (λ ws. Finds kind ws b.totals x) seek (rule_found finder.now b.totals r x found rule)
 
   pub searches_agree : (book : ℕ → Book) (requests : List (Request F)) (answers : List (Answer R)) →
@@ -134,7 +133,7 @@ module _ {R F : Type 0} (kind : Ghosts R) (by : FinderGhosts F) (work : ℕ) whe
 
 -- ---- a whole run
 
-module _ {R F : Type 0} (kind : Ghosts R) (by : FinderGhosts F) (reqs : List (Request F)) where
+module _ {R F : Type 0} (kind : Kind R) (by : F → Meaning) (reqs : List (Request F)) where
   -- a run from a sheet just laid out over the cells xs, which left the cells ys
   pub ran_over : (xs ys work after : List R) (t u : Sheet R) (old os : List (Answer R)) → Stands kind [] t → length (cells_of t) ≡ length xs → drop max_places (cells_of t) ≡ drop max_places xs →
       Kept t u → ys ≡ cells_of u → drop (length reqs) os ≡ drop (length reqs) old →
@@ -157,27 +156,14 @@ module _ {R F : Type 0} (kind : Ghosts R) (by : FinderGhosts F) (reqs : List (Re
 
 -- ---- requests that name their finders
 
--- a search by a finder is a search by any name of the same length, rows and need
-pub search_by : {R F N : Type 0} (kind : Ghosts R) (own : FinderGhosts F) (finder : F) (by : FinderGhosts N) (name : N) (t u : Sheet R) (before after : List R) (r : Result (Found R) Refusal) →
-    own.span finder ≡ by.span name → own.rows finder ≡ by.rows name → own.need finder ≡ by.need name →
-    SearchLaw kind t u own finder before after r → SearchLaw kind t u by name before after r
-search_by kind own finder by name t u before after r es er en law =
-    let P : ℕ → List ℕ → ℕ → Type 0 = λ span rows need. MatchResult r
-    (λ f. Answered kind.weight kind.size span rows need (front t) before after f.message f.reading) (λ e. Refused kind.size span need (front t) before after e) in
-    record {
-      book = λ h st. let b = law.book h st in (b.0, record {
-        length_differs = λ d. b.1.length_differs (λ e. d (e ∙ es));
-        work_short = λ e w. b.1.work_short (e ∙ sym es) (subst (λ k. length before < k) (sym en) w);
-        answered = λ e w. subst (λ rows. (f : Found _) × (r ≡ Ok f) × Best rows (book_at kind h t).totals f.message × (kind.weight f.reading ≡ agrees rows (book_at kind h t).totals f.message)) er
-            (b.1.answered (e ∙ sym es) (subst (λ k. k ≤ length before) (sym en) w));
-      });
-      cells = subst (λ x. P x (by.rows name) (by.need name)) es (subst (λ x. P (own.span finder) x (by.need name)) er (subst (λ x. P (own.span finder) (own.rows finder) x) en law.cells));
-      same = law.same;
-    }
+-- a search by a finder is a search by whatever means the same
+pub search_by : {R : Type 0} (kind : Kind R) (own by : Meaning) (t u : Sheet R) (before after : List R) (r : Result (Found R) Refusal) →
+    own ≡ by → SearchLaw kind t u own before after r → SearchLaw kind t u by before after r
+search_by kind own by t u before after r same = subst (λ (m : Meaning). SearchLaw kind t u m before after r) same
 
 -- a search was a request for one
-pub served_search : {R N : Type 0} (kind : Ghosts R) (by : FinderGhosts N) (name : Bor N) (t u : Sheet R) (before after : List R) (r : Result (Found R) Refusal) →
-    SearchLaw kind t u by name.now before after r → Served kind by (length before) t u (request.Search name) before after (Searched r)
+pub served_search : {R N : Type 0} (kind : Kind R) (by : N → Meaning) (name : Bor N) (t u : Sheet R) (before after : List R) (r : Result (Found R) Refusal) →
+    SearchLaw kind t u (by name.now) before after r → Served kind by (length before) t u (request.Search name) before after (Searched r)
 served_search kind by name t u before after r law = record {
     book = λ h st. let b = law.book h st in (b.0, (r, refl, b.1));
     call = (r, refl, law);
@@ -186,8 +172,8 @@ served_search kind by name t u before after r law = record {
   }
   where
     spares : (x : Result (Found _) Refusal) → MatchResult x
-        (λ f. Answered kind.weight kind.size (by.span name.now) (by.rows name.now) (by.need name.now) (front t) before after f.message f.reading)
-        (λ e. Refused kind.size (by.span name.now) (by.need name.now) (front t) before after e) →
+        (Answered kind (by name.now) (front t) before after)
+        (Refused kind.size (by name.now).span (by name.now).need (front t) before after) →
         drop (used by (request.Search name) (Searched x)) after ≡ drop (used by (request.Search name) (Searched x)) before
     spares (Ok f) a = a.beyond
     spares (Err e) a = ap (drop 0) a.untouched

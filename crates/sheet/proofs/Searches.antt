@@ -6,10 +6,9 @@ use Rattle.code.specs.Words.{Best, agrees}
 use Rattle.code.specs.declared.refusal.Refusal.{Refusal}
 use Rattle.code.specs.declared.refusal.Refusal.TheVariants.{SizeTooLarge}
 use Rattle.code.proofs.Tops.{best_unique}
-use Rattle.reading.specs.declared.Reading.{Ghosts}
-use Rattle.finder.specs.declared.Finder.{Ghosts as FinderGhosts}
+use Rattle.reading.specs.declared.Reading.{Ghosts as Kind}
 use Rattle.finder.specs.declared.found.Found.{Found}
-use Rattle.finder.specs.Search.{large_from, refusal, Answered, Refused}
+use Rattle.finder.specs.Search.{Meaning, large_from, refusal, Answered, Refused}
 use Rattle.finder.proofs.Refusals.{wrong_length, right_length, memory_short, memory-fits}
 use Rattle.sheet.specs.declared.Sheet.{Sheet}
 use Rattle.sheet.specs.Book.{Call, SearchRule}
@@ -22,29 +21,29 @@ none_large i (x ∷ xs) after all =
     ap (λ t. cond t (large_from (i + 1) xs after) (Some (SizeTooLarge i))) (le-leb x size_limit (all 0 (omega arith)))
     ∙ none_large (i + 1) xs after (λ k h. all (suc k) (omega arith))
 
-module _ {R F : Type 0} (kind : Ghosts R) (by : FinderGhosts F) (finder : F) where
+module _ {R : Type 0} (kind : Kind R) (by : Meaning) where
   -- a search of the word was answered r
   abbrev pub Searched : (word work after : List R) → Result (Found R) Refusal → Type 0
   Searched word work after r = MatchResult r
-      (λ f. Answered kind.weight kind.size (by.span finder) (by.rows finder) (by.need finder) word work after f.message f.reading)
-      (λ e. Refused kind.size (by.span finder) (by.need finder) word work after e)
+      (Answered kind by word work after)
+      (Refused kind.size by.span by.need word work after)
 
   module _ (word work after : List R) where
-    refused_is : (r : Result (Found R) Refusal) (x : Refusal) → refusal (by.span finder) (by.need finder) (map kind.size word) (length work) ≡ Some x →
+    refused_is : (r : Result (Found R) Refusal) (x : Refusal) → refusal by.span by.need (map kind.size word) (length work) ≡ Some x →
         Searched word work after r → r ≡ Err x
     refused_is (Ok f) x is a = let t = a.taken in let z : ◌≡◌ {A = ℕ} 0 1 = cc in absurd (omega arith)
     refused_is (Err e) x is a = let t : Some e ≡ Some x = sym a.reason ∙ is in cc
 
-    answered_is : (r : Result (Found R) Refusal) → refusal (by.span finder) (by.need finder) (map kind.size word) (length work) ≡ None → Searched word work after r →
-        (f : Found R) × (r ≡ Ok f) × Best (by.rows finder) (map kind.weight word) f.message × (kind.weight f.reading ≡ agrees (by.rows finder) (map kind.weight word) f.message)
+    answered_is : (r : Result (Found R) Refusal) → refusal by.span by.need (map kind.size word) (length work) ≡ None → Searched word work after r →
+        (f : Found R) × (r ≡ Ok f) × Best by.rows (map kind.weight word) f.message × (kind.weight f.reading ≡ agrees by.rows (map kind.weight word) f.message)
     answered_is (Ok f) is a = (f, refl, a.is_best, a.weighs)
     answered_is (Err e) is a = let t = a.reason in let z : ◌≡◌ {A = ℕ} 0 1 = cc in absurd (omega arith)
 
     rule_of : (r : Result (Found R) Refusal) → ((k : ℕ) (d : R) → k < length word → kind.size (get_or word k d) ≤ size_limit) → Searched word work after r →
-        SearchRule kind by finder (length work) (map kind.weight word) r
+        SearchRule kind by (length work) (map kind.weight word) r
     rule_of r light a =
-        let span = by.span finder in
-        let need = by.need finder in
+        let span = by.span in
+        let need = by.need in
         let lw = length-map word kind.weight in
         let ls = length-map word kind.size in
         let small : (k : ℕ) → k < length (map kind.size word) → get_or (map kind.size word) k 0 ≤ size_limit = λ k h.
@@ -59,9 +58,9 @@ module _ {R F : Type 0} (kind : Ghosts R) (by : FinderGhosts F) (finder : F) whe
         }
 
   pub searched : (h : List Call) (t : Sheet R) (work after : List R) (r : Result (Found R) Refusal) → Searched (front t) work after r →
-      Stands kind h t → SearchRule kind by finder (length work) (book_at kind h t).totals r
+      Stands kind h t → SearchRule kind by (length work) (book_at kind h t).totals r
   searched h t work after r a st =
-      subst (λ ws. SearchRule kind by finder (length work) ws r) st.totals
+      subst (λ ws. SearchRule kind by (length work) ws r) st.totals
       (rule_of (front t) work after r
       (λ k d hk.
       let l = length-take max_places (cells_of t) in
@@ -70,16 +69,16 @@ module _ {R F : Type 0} (kind : Ghosts R) (by : FinderGhosts F) (finder : F) whe
       a)
 
 -- two searches of the same cells with the same rows agree
-pub both_agree : {R A B : Type 0} (kind : Ghosts R) (by_a : FinderGhosts A) (a : A) (by_b : FinderGhosts B) (b : B) (t u : Sheet R) (work left after : List R) (r r' : Result (Found R) Refusal) → cells_of u ≡ cells_of t →
-    Searched kind by_a a (front t) work left r → Searched kind by_b b (front u) left after r' → by_a.rows a ≡ by_b.rows b → SameFound kind r r'
-both_agree kind by_a a by_b b t u work left after (Ok f) (Ok g) same x y eq =
+pub both_agree : {R : Type 0} (kind : Kind R) (first second : Meaning) (t u : Sheet R) (work left after : List R) (r r' : Result (Found R) Refusal) → cells_of u ≡ cells_of t →
+    Searched kind first (front t) work left r → Searched kind second (front u) left after r' → first.rows ≡ second.rows → SameFound kind r r'
+both_agree kind first second t u work left after (Ok f) (Ok g) same x y eq =
     let totals = map kind.weight (front t) in
     let ws = ap (λ xs. map kind.weight (take max_places xs)) same in
-    let other = subst (λ rows. Best rows totals g.message) (sym eq) (subst (λ vs. Best (by_b.rows b) vs g.message) ws y.is_best) in
-    let m = best_unique (by_a.rows a) totals f.message g.message x.is_best other in (
+    let other = subst (λ rows. Best rows totals g.message) (sym eq) (subst (λ vs. Best second.rows vs g.message) ws y.is_best) in
+    let m = best_unique first.rows totals f.message g.message x.is_best other in (
       m,
-      x.weighs ∙ ap (agrees (by_a.rows a) totals) m ∙ ap (λ rows. agrees rows totals g.message) eq
-          ∙ ap (λ vs. agrees (by_b.rows b) vs g.message) (sym ws) ∙ sym y.weighs,
+      x.weighs ∙ ap (agrees first.rows totals) m ∙ ap (λ rows. agrees rows totals g.message) eq
+          ∙ ap (λ vs. agrees second.rows vs g.message) (sym ws) ∙ sym y.weighs,
     )
-both_agree kind by_a a by_b b t u work left after (Ok f) (Err e) same x y eq = tt
-both_agree kind by_a a by_b b t u work left after (Err e) r' same x y eq = tt
+both_agree kind first second t u work left after (Ok f) (Err e) same x y eq = tt
+both_agree kind first second t u work left after (Err e) r' same x y eq = tt

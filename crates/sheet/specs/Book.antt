@@ -5,8 +5,8 @@ use Rattle.code.specs.declared.refusal.Refusal.{Refusal}
 use Rattle.code.specs.declared.refusal.Refusal.TheVariants.{PassLengthDiffers, TooManyPasses, PlaceOffSheet, WordLengthDiffers, WorkMemoryShort}
 use Rattle.sample.specs.declared.Sample.{Sample}
 use Rattle.sample.specs.Samples.{answer, AllGood, FirstBad}
-use Rattle.reading.specs.declared.Reading.{Ghosts}
-use Rattle.finder.specs.declared.Finder.{Ghosts as FinderGhosts}
+use Rattle.reading.specs.declared.Reading.{Ghosts as Kind}
+use Rattle.finder.specs.Search.{Meaning}
 use Rattle.finder.specs.declared.found.Found.{Found}
 use Rattle.sheet.specs.Cells.{max_passes, label_weight, pass_check}
 
@@ -68,8 +68,8 @@ pub record PassRule (b : Book) (xs : List Sample) (r : Result ℕ Refusal) : Typ
   pub taken : length xs ≡ length b.totals → b.count < max_passes → AllGood xs → r ≡ Ok (b.count + 1)
 
 -- the answer r of a search at these standing totals by a finder, with so much work memory
-pub record SearchRule {R F : Type 0} (kind : Ghosts R) (by : FinderGhosts F) (finder : F) (work : ℕ) (totals : List ℤ) (r : Result (Found R) Refusal) : Type 0 where
-  pub length_differs : (length totals ≢ by.span finder) → r ≡ Err WordLengthDiffers
-  pub work_short : length totals ≡ by.span finder → work < by.need finder → r ≡ Err WorkMemoryShort
-  pub answered : length totals ≡ by.span finder → by.need finder ≤ work →
-      (f : Found R) × (r ≡ Ok f) × Best (by.rows finder) totals f.message × (kind.weight f.reading ≡ agrees (by.rows finder) totals f.message)
+pub record SearchRule {R : Type 0} (kind : Kind R) (by : Meaning) (work : ℕ) (totals : List ℤ) (r : Result (Found R) Refusal) : Type 0 where
+  pub length_differs : (length totals ≢ by.span) → r ≡ Err WordLengthDiffers
+  pub work_short : length totals ≡ by.span → work < by.need → r ≡ Err WorkMemoryShort
+  pub answered : length totals ≡ by.span → by.need ≤ work →
+      (f : Found R) × (r ≡ Ok f) × Best (by.rows) totals f.message × (kind.weight f.reading ≡ agrees (by.rows) totals f.message)

@@ -3,7 +3,7 @@ use Rattle.std.specs.Prelude.{◌≡◌, ℕ, ◌+◌, ◌<◌, ◌≤◌, min, 
 use Rattle.code.specs.Limits.{max_places, full_label, sum_limit, size_limit}
 use Rattle.code.specs.declared.refusal.Refusal.{Refusal}
 use Rattle.code.specs.declared.refusal.Refusal.TheVariants.{PassLengthDiffers, TooManyPasses, SizeTooLarge}
-use Rattle.reading.specs.declared.Reading.{Ghosts}
+use Rattle.reading.specs.declared.Reading.{Ghosts as Kind}
 use Rattle.sample.specs.declared.Sample.{Sample}
 use Rattle.sample.specs.Samples.{main_label, second_label, first_fault, AllGood}
 
@@ -26,7 +26,7 @@ label_size x = max (unsigned_abs (main_label x)) (unsigned_abs (second_label x))
 abbrev pub pass_check : ℕ → ℕ → List Sample → Option Refusal
 pass_check n count xs = cond (length xs == n) (cond (nat_lt count max_passes) (first_fault 0 xs) (Some TooManyPasses)) (Some PassLengthDiffers)
 
-module _ {R : Type 0} (kind : Ghosts R) where
+module _ {R : Type 0} (kind : Kind R) where
   -- a reading made from the labels 0 and 0
   pub record Blank (x : R) : Type 0 where
     pub weighs : kind.weight x ≡ pos 0

@@ -4,10 +4,9 @@ use Rattle.code.specs.Limits.{max_places, full_label}
 use Rattle.code.specs.declared.refusal.Refusal.{Refusal}
 use Rattle.code.specs.declared.refusal.Refusal.TheVariants.{PlaceOffSheet}
 use Rattle.sample.specs.declared.Sample.{Sample}
-use Rattle.reading.specs.declared.Reading.{Ghosts}
-use Rattle.finder.specs.declared.Finder.{Ghosts as FinderGhosts}
+use Rattle.reading.specs.declared.Reading.{Ghosts as Kind}
 use Rattle.finder.specs.declared.found.Found.{Found}
-use Rattle.finder.specs.Search.{Answered, Refused}
+use Rattle.finder.specs.Search.{Meaning, Answered, Refused}
 use Rattle.sheet.specs.declared.Sheet.{Sheet}
 use Rattle.sheet.specs.Cells.{max_passes, covered, Blank, AllBlank, Passed, PassFails}
 use Rattle.sheet.specs.Book.{Call, Pass, Strike, Clear, Search, Book, book_of, pass_answer, strike_answer, PassRule, SearchRule}
@@ -32,12 +31,12 @@ pub record Same {R : Type 0} (t u : Sheet R) : Type 0 where
   pub passes : u.passes ≡ t.passes
 
 -- where both found something, it is the same message and the same weight
-abbrev pub SameFound : {R : Type 0} → Ghosts R → Result (Found R) Refusal → Result (Found R) Refusal → Type 0
+abbrev pub SameFound : {R : Type 0} → Kind R → Result (Found R) Refusal → Result (Found R) Refusal → Type 0
 SameFound kind (Ok f) (Ok g) = (f.message ≡ g.message) × (kind.weight f.reading ≡ kind.weight g.reading)
 SameFound kind (Ok f) (Err e) = Unit {0}
 SameFound kind (Err e) r = Unit {0}
 
-module _ {R : Type 0} (kind : Ghosts R) where
+module _ {R : Type 0} (kind : Kind R) where
   -- the book of a sheet over the cells xs after the calls h
   abbrev pub book_over : List R → List Call → Book
   book_over xs h = book_of kind.MAIN_UNIT kind.SECOND_UNIT (covered xs) h
@@ -80,17 +79,17 @@ module _ {R : Type 0} (kind : Ghosts R) where
     pub kept : Kept t u
 
   -- a search of t by a finder left u, answered r, and left the work memory as `after`
-  pub record SearchLaw {F : Type 0} (t u : Sheet R) (by : FinderGhosts F) (finder : F) (work after : List R) (r : Result (Found R) Refusal) : Type 0 where
-    pub book : Booked t u Search (λ b. SearchRule kind by finder (length work) b.totals r)
+  pub record SearchLaw (t u : Sheet R) (by : Meaning) (work after : List R) (r : Result (Found R) Refusal) : Type 0 where
+    pub book : Booked t u Search (λ b. SearchRule kind by (length work) b.totals r)
     pub cells : MatchResult r
-        (λ f. Answered kind.weight kind.size (by.span finder) (by.rows finder) (by.need finder) (front t) work after f.message f.reading)
-        (λ e. Refused kind.size (by.span finder) (by.need finder) (front t) work after e)
+        (Answered kind by (front t) work after)
+        (Refused kind.size by.span by.need (front t) work after)
     pub same : Same t u
 
   -- a search of t by one finder, then by another
-  pub record BothLaw {A B : Type 0} (t u : Sheet R) (by_a : FinderGhosts A) (a : A) (by_b : FinderGhosts B) (b : B) (work after : List R) (r r' : Result (Found R) Refusal) : Type 0 where
+  pub record BothLaw (t u : Sheet R) (first second : Meaning) (work after : List R) (r r' : Result (Found R) Refusal) : Type 0 where
     pub between : Sheet R
     pub left : List R
-    pub by_first : SearchLaw t between by_a a work left r
-    pub by_second : SearchLaw between u by_b b left after r'
-    pub agree : by_a.rows a ≡ by_b.rows b → SameFound kind r r'
+    pub by_first : SearchLaw t between first work left r
+    pub by_second : SearchLaw between u second left after r'
+    pub agree : first.rows ≡ second.rows → SameFound kind r r'

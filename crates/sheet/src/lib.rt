@@ -107,13 +107,13 @@ impl<'a, R: Reading> Sheet<'a, R> {
 
     // Hands the covered cells to a finder. The sheet is the same afterwards.
     pub fn search<F: Finder>(&mut self, finder: &F, work: &mut [R]) -> Result<Found<R>, Refusal>
-        ensures { SearchLaw R.Reading self.old self.new F.Finder finder.now work.old work.new result }
+        ensures { SearchLaw R.Reading self.old self.new (F.Finder.meaning finder.now) work.old work.new result }
     {
         self.search_covered(finder, work)
     }
 
     fn search_covered<F: Finder>(&mut self, finder: &F, work: &mut [R]) -> Result<Found<R>, Refusal>
-        ensures { SearchLaw R.Reading self.old self.new F.Finder finder.now work.old work.new result }
+        ensures { SearchLaw R.Reading self.old self.new (F.Finder.meaning finder.now) work.old work.new result }
     {
         let n = covering(self.cells.len());
         finder.search(&mut self.cells[0..n], work)
@@ -127,7 +127,7 @@ impl<'a, R: Reading> Sheet<'a, R> {
         b: &B,
         work: &mut [R],
     ) -> (Result<Found<R>, Refusal>, Result<Found<R>, Refusal>)
-        ensures { BothLaw R.Reading self.old self.new A.Finder a.now B.Finder b.now work.old work.new result.0 result.1 }
+        ensures { BothLaw R.Reading self.old self.new (A.Finder.meaning a.now) (B.Finder.meaning b.now) work.old work.new result.0 result.1 }
     {
         self.search_twice(a, b, work)
     }
@@ -138,7 +138,7 @@ impl<'a, R: Reading> Sheet<'a, R> {
         b: &B,
         work: &mut [R],
     ) -> (Result<Found<R>, Refusal>, Result<Found<R>, Refusal>)
-        ensures { BothLaw R.Reading self.old self.new A.Finder a.now B.Finder b.now work.old work.new result.0 result.1 }
+        ensures { BothLaw R.Reading self.old self.new (A.Finder.meaning a.now) (B.Finder.meaning b.now) work.old work.new result.0 result.1 }
     {
         let first = self.search_covered(a, work);
         let second = self.search_covered(b, work);

@@ -31,7 +31,7 @@ pub enum Answer<R> {
 impl<'a, R: Reading> Sheet<'a, R> {
     // Makes one request of the sheet.
     pub fn serve<F: Finder>(&mut self, request: &Request<F>, work: &mut [R]) -> Answer<R>
-        ensures { Served R.Reading F.Finder (length work.old) self.old self.new request.now work.old work.new result }
+        ensures { Served R.Reading F.Finder.meaning (length work.old) self.old self.new request.now work.old work.new result }
     {
         self.serve_by(request, &|finder| finder, work)
     }
@@ -44,7 +44,7 @@ impl<'a, R: Reading> Sheet<'a, R> {
         work: &mut [R],
     ) -> Answer<R>
         requires { L.IsAlwaysCallable finder_of.now }
-        ensures law { ByName L.Fn finder_of.now F.Finder (λ by. Served R.Reading by (length work.old) self.old self.new request.now work.old work.new result) }
+        ensures law { ByName L.Fn finder_of.now F.Finder.meaning (λ by. Served R.Reading by (length work.old) self.old self.new request.now work.old work.new result) }
         ensures kept { Kept self.old self.new }
     {
         match request {
@@ -68,7 +68,7 @@ impl<'a, R: Reading> Sheet<'a, R> {
     )
         requires room { length requests.now ≤ length answers.old }
         requires callable { L.IsAlwaysCallable finder_of }
-        ensures law { ByName L.Fn finder_of F.Finder (λ by. RanFrom R.Reading by requests.now (length requests.now) self.old self.new work.old work.new answers.new) }
+        ensures law { ByName L.Fn finder_of F.Finder.meaning (λ by. RanFrom R.Reading by requests.now (length requests.now) self.old self.new work.old work.new answers.new) }
         ensures kept { Kept self.old self.new }
         ensures rest { drop (length requests.now) answers.new ≡ drop (length requests.now) answers.old }
     {
@@ -89,7 +89,7 @@ fn run_laid_out<'f, R: Reading, N: 'f, F: Finder + 'f, L: Fn(&'f N) -> &'f F>(
 ) -> u32
     requires room { length requests.now ≤ length answers.old }
     requires callable { L.IsAlwaysCallable finder_of }
-    ensures { ByName L.Fn finder_of F.Finder (λ by. RanOver R.Reading by requests.now result cells.old cells.new work.old work.new answers.old answers.new) }
+    ensures { ByName L.Fn finder_of F.Finder.meaning (λ by. RanOver R.Reading by requests.now result cells.old cells.new work.old work.new answers.old answers.new) }
 {
     let mut sheet = Sheet::new(cells);
     sheet.run(requests, finder_of, work, answers);
@@ -106,7 +106,7 @@ pub fn run_over_by<'f, R: Reading, N: 'f, F: Finder + 'f, L: Fn(&'f N) -> &'f F>
     answers: &mut [Answer<R>],
 ) -> Result<u32, Refusal>
     requires { L.IsAlwaysCallable finder_of }
-    ensures law { ByName L.Fn finder_of F.Finder (λ by. MatchResult result
+    ensures law { ByName L.Fn finder_of F.Finder.meaning (λ by. MatchResult result
         (λ count. RanOver R.Reading by requests.now count cells.old cells.new work.old work.new answers.old answers.new)
         (λ e. (e ≡ OutputShort) × (length answers.old < length requests.now))) }
     ensures refused { MatchResult result (λ _. length requests.now ≤ length answers.old) (λ _. (cells.new ≡ cells.old) × (work.new ≡ work.old) × (answers.new ≡ answers.old)) }
@@ -125,7 +125,7 @@ pub fn run_over<R: Reading, F: Finder>(
     answers: &mut [Answer<R>],
 ) -> Result<u32, Refusal>
     ensures law { MatchResult result
-        (λ count. RanOver R.Reading F.Finder requests.now count cells.old cells.new work.old work.new answers.old answers.new)
+        (λ count. RanOver R.Reading F.Finder.meaning requests.now count cells.old cells.new work.old work.new answers.old answers.new)
         (λ e. (e ≡ OutputShort) × (length answers.old < length requests.now)) }
     ensures refused { MatchResult result (λ _. length requests.now ≤ length answers.old) (λ _. (cells.new ≡ cells.old) × (work.new ≡ work.old) × (answers.new ≡ answers.old)) }
 {

@@ -8,7 +8,7 @@ use Rattle.card_list.specs.declared.requests.Answer.{Answer as CardAnswer}
 use Rattle.card_list.specs.Requests.{OwnList, card_after}
 use Rattle.card_file.specs.Files.{read_card_lem}
 use Rattle.card_finder.specs.Whole.{group_need_of, plain_need_of}
-use Rattle.reading.specs.declared.Reading.{Ghosts}
+use Rattle.reading.specs.declared.Reading.{Ghosts as Kind}
 use Rattle.finder.specs.declared.Finder.{Ghosts as FinderGhosts}
 use Rattle.sheet.specs.declared.run.Request.{Request}
 use Rattle.sheet.specs.declared.run.Answer.{Answer}
@@ -29,7 +29,7 @@ need_on k Group = group_need_of k
 abbrev pub by_card : Card → FinderGhosts Method
 by_card k = record { span = λ _. k.len; rows = λ _. rows_of k; need = need_on k }
 
-module _ {R : Type 0} (kind : Ghosts R) where
+module _ {R : Type 0} (kind : Kind R) where
   -- the law of runs, where every search is by the length and the rows of the card k
   abbrev pub CardRun : Card → List (Request Method) → ℕ → (xs ys work after : List R) → (old answers : List (Answer R)) → Type 0
   CardRun k = RanOver kind (by_card k)

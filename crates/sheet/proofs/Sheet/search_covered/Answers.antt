@@ -12,9 +12,9 @@ returns g c =
     let after = c.search.new.work in
     let r = c.search.result in
     let cells = put_back t.cells.now c.search.new.word n c.search.ensures.same in
-    let a = subst (λ xs. Searched g.R.Reading g.F.Finder c.args.finder.now xs work after r) (part_is t.cells.now n (omega (arith, c.covering-n.ensures))) c.search.ensures.answer in
+    let a = subst (λ xs. Searched g.R.Reading (g.F.Finder.meaning c.args.finder.now) xs work after r) (part_is t.cells.now n (omega (arith, c.covering-n.ensures))) c.search.ensures.answer in
     record {
-      book = λ h st. (not_moved _ h t _ (record { named = refl; cells = cells; passes = refl }) st, searched _ _ _ h t work after r a st);
+      book = λ h st. (not_moved _ h t _ (record { named = refl; cells = cells; passes = refl }) st, searched _ _ h t work after r a st);
       cells = a;
       same = record { named = refl; cells = cells; passes = refl };
     }

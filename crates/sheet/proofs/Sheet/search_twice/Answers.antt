@@ -10,5 +10,5 @@ returns g c =
       left = c.search_covered-first.new.work;
       by_first = x;
       by_second = y;
-      agree = both_agree g.R.Reading g.A.Finder c.args.a.now g.B.Finder c.args.b.now c.args.self.now c.search_covered-first.new.self _ _ _ _ _ x.same.cells x.cells y.cells;
+      agree = both_agree g.R.Reading (g.A.Finder.meaning c.args.a.now) (g.B.Finder.meaning c.args.b.now) c.args.self.now c.search_covered-first.new.self _ _ _ _ _ x.same.cells x.cells y.cells;
     }
