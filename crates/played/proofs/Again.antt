@@ -14,7 +14,7 @@ use Rattle.card.specs.Cards.{rows_of}
 use Rattle.sample.specs.declared.Sample.{Sample}
 use Rattle.sample.proofs.Faults.{first_good}
 use Rattle.reading.specs.declared.Reading.{Ghosts as Kind}
-use Rattle.finder.specs.declared.Finder.{Ghosts as FinderGhosts}
+use Rattle.finder.specs.Search.{Meaning}
 use Rattle.finder.specs.declared.found.Found.{Found}
 use Rattle.sheet.specs.declared.Sheet.{Sheet}
 use Rattle.sheet.specs.Cells.{covered}
@@ -67,20 +67,20 @@ module _ {R : Type 0} (kind : Kind R) where
       ∙ ap (λ ts. add_labels kind.MAIN_UNIT kind.SECOND_UNIT ts samples) (q.nothing none)
       ∙ full_totals kind.MAIN_UNIT kind.SECOND_UNIT n samples c long plays
 
-  pub again : {F : Type 0} (t u : Sheet R) (by : FinderGhosts F) (finder : F) (work after : List R) (r : Result (Found R) Refusal) → 1 ≤ kind.MAIN_UNIT →
-      SearchLaw kind t u by finder work after r → Again kind t by finder (length work) r
-  again t u by finder work after r unit law card m h samples lawful low st none plays long cov sp rw' fits =
+  pub again : (t u : Sheet R) (by : Meaning) (work after : List R) (r : Result (Found R) Refusal) → 1 ≤ kind.MAIN_UNIT →
+      SearchLaw kind t u by work after r → Again kind t by (length work) r
+  again t u by work after r unit law card m h samples lawful low st none plays long cov sp rw' fits =
       let n = card.len in
       let F = full_label * kind.MAIN_UNIT in
       let c = codeword (rows_of card) m in
       let rule = (law.book (h ++ Pass samples ∷ []) st).1 in
       let ts = ap (λ k. (book_of kind.MAIN_UNIT kind.SECOND_UNIT k (h ++ Pass samples ∷ [])).totals) cov
       ∙ once_totals n h samples c (subst (λ k. (book_of kind.MAIN_UNIT kind.SECOND_UNIT k h).count ≡ 0) cov none) long plays in
-      let places : length (book_at kind (h ++ Pass samples ∷ []) t).totals ≡ by.span finder =
+      let places : length (book_at kind (h ++ Pass samples ∷ []) t).totals ≡ by.span =
       (quiet_book kind.MAIN_UNIT kind.SECOND_UNIT (covered (cells_of t)) (h ++ Pass samples ∷ [])).places ∙ cov ∙ sym sp in
       let a = rule.answered places fits in
       let f = a.0 in
-      let best = subst (λ x. Best x (negated_at (replicate n (pos F)) c) f.message) rw' (subst (λ x. Best (by.rows finder) x f.message) ts a.2) in
+      let best = subst (λ x. Best x (negated_at (replicate n (pos F)) c) f.message) rw' (subst (λ x. Best by.rows x f.message) ts a.2) in
       let is = only_best (rows_of card) n F m lawful.within lawful.independent (omega arith) low f.message best in (
         f,
         a.1,

@@ -9,7 +9,7 @@ use Rattle.card.specs.Cards.{Card, Lawful, rows_of}
 use Rattle.sample.specs.declared.Sample.{Sample}
 use Rattle.sample.specs.declared.Sample.TheVariants.{Bit, Level}
 use Rattle.reading.specs.declared.Reading.{Ghosts as Kind}
-use Rattle.finder.specs.declared.Finder.{Ghosts as FinderGhosts}
+use Rattle.finder.specs.Search.{Meaning}
 use Rattle.finder.specs.declared.found.Found.{Found}
 use Rattle.sheet.specs.declared.Sheet.{Sheet}
 use Rattle.sheet.specs.Cells.{covered}
@@ -51,11 +51,11 @@ FoundAgain kind n message r = (f : Found _) × (r ≡ Ok f) × (f.message ≡ me
 
 -- what was played once at full level from a card, to a sheet with no passes, is found again by a finder of the card's length and rows, given its need:
 -- h are the calls before the pass
-abbrev pub Again : {R F : Type 0} (kind : Kind R) → Sheet R → FinderGhosts F → F → (work : ℕ) → Result (Found R) Refusal → Type 0
-Again kind t by finder work r =
+abbrev pub Again : {R : Type 0} (kind : Kind R) → Sheet R → Meaning → (work : ℕ) → Result (Found R) Refusal → Type 0
+Again kind t by work r =
     (card : Card) (message : ℕ) (h : List Call) (samples : List Sample) →
     Lawful card → message < 2 ^ length (rows_of card) →
     Stands kind (h ++ Pass samples ∷ []) t → (book_at kind h t).count ≡ 0 →
     PlaysWord (codeword (rows_of card) message) samples → length samples ≡ card.len → covered (cells_of t) ≡ card.len →
-    by.span finder ≡ card.len → by.rows finder ≡ rows_of card → by.need finder ≤ work →
+    by.span ≡ card.len → by.rows ≡ rows_of card → by.need ≤ work →
     FoundAgain kind card.len message r

@@ -81,8 +81,8 @@ fn search_played<R: Reading, F: Finder>(
     finder: &F,
     work: &mut [R],
 ) -> Result<Found<R>, Refusal>
-    ensures law { SearchLaw R.Reading sheet.old sheet.new F.Finder finder.now work.old work.new result }
-    ensures again { Again R.Reading sheet.old F.Finder finder.now (length work.old) result }
+    ensures law { SearchLaw R.Reading sheet.old sheet.new (F.Finder.meaning finder.now) work.old work.new result }
+    ensures again { Again R.Reading sheet.old (F.Finder.meaning finder.now) (length work.old) result }
 {
     sheet.search(finder, work)
 }
@@ -94,8 +94,8 @@ pub fn find_again<R: Reading, F: Finder>(
     finder: &F,
     work: &mut [R],
 ) -> Result<Found<R>, Refusal>
-    ensures law { SearchLaw R.Reading sheet.old sheet.new F.Finder finder.now work.old work.new result }
-    ensures again { Again R.Reading sheet.old F.Finder finder.now (length work.old) result }
+    ensures law { SearchLaw R.Reading sheet.old sheet.new (F.Finder.meaning finder.now) work.old work.new result }
+    ensures again { Again R.Reading sheet.old (F.Finder.meaning finder.now) (length work.old) result }
 {
     search_played(sheet, finder, work)
 }

@@ -2,14 +2,16 @@
 use Rattle.std.specs.Prelude.{◌≡◌, ℕ, ◌<◌, List, length, drop, Ok}
 use Rattle.code.specs.declared.refusal.Refusal.{Refusal}
 use Rattle.code.specs.declared.refusal.Refusal.TheVariants.{OutputShort}
-use Rattle.card.specs.Cards.{Card, rows_of}
+use Rattle.card.specs.Cards.{Card}
 use Rattle.card_list.specs.declared.requests.Request.{Request as CardRequest}
 use Rattle.card_list.specs.declared.requests.Answer.{Answer as CardAnswer}
 use Rattle.card_list.specs.Requests.{OwnList, card_after}
 use Rattle.card_file.specs.Files.{read_card_lem}
-use Rattle.card_finder.specs.Whole.{group_need_of, plain_need_of}
+use Rattle.card_finder.specs.Whole.{whole_meaning}
 use Rattle.reading.specs.declared.Reading.{Ghosts as Kind}
-use Rattle.finder.specs.declared.Finder.{Ghosts as FinderGhosts}
+use Rattle.finder.specs.OfCard.{plain_need_of}
+use Rattle.finder.specs.Search.{Meaning}
+use Rattle.group_finder.specs.Choices.{group_need_of}
 use Rattle.sheet.specs.declared.run.Request.{Request}
 use Rattle.sheet.specs.declared.run.Answer.{Answer}
 use Rattle.sheet.specs.Runs.{RanOver}
@@ -26,8 +28,8 @@ need_on k Plain = plain_need_of k
 need_on k Group = group_need_of k
 
 -- each method searches by the length and the rows of the card k, with its own need
-abbrev pub by_card : Card → FinderGhosts Method
-by_card k = record { span = λ _. k.len; rows = λ _. rows_of k; need = need_on k }
+abbrev pub by_card : Card → Method → Meaning
+by_card k method = whole_meaning (λ c. need_on c method) k
 
 module _ {R : Type 0} (kind : Kind R) where
   -- the law of runs, where every search is by the length and the rows of the card k

@@ -7,8 +7,9 @@ ghost use Rattle.strip.specs.Finders.{FindersOf, finder_of};
 use crate::Method;
 use card::states::FinishedCard;
 use code::refusal::Refusal;
-use card_finder::{group_finder, plain_finder};
+use card_finder::card_finder;
 use coset_layer::CosetLayer;
+use finder::Finder;
 use finder::either::Either;
 use finder::plain::PlainFinder;
 use group_finder::GroupFinder;
@@ -28,11 +29,11 @@ pub(crate) struct CardFinders {
 
 impl CardFinders {
     pub(crate) fn new(card: &FinishedCard) -> CardFinders
-        ensures { FindersOf card.now result }
+        ensures { FindersOf ⟦<CardFinder as Finder>⟧.meaning card.now result }
     {
         CardFinders {
-            plain: Either::First(plain_finder(card)),
-            group: Either::Second(group_finder(card)),
+            plain: Either::First(card_finder::<PlainFinder>(card)),
+            group: Either::Second(card_finder::<GroupFinder>(card)),
         }
     }
 
@@ -54,7 +55,7 @@ impl CardFinders {
         work: &mut [R],
         answers: &mut [Answer<R>],
     ) -> Result<u32, Refusal>
-        ensures law { (k : Card) → FindersOf k self.now → MatchResult result
+        ensures law { (k : Card) → FindersOf ⟦<CardFinder as Finder>⟧.meaning k self.now → MatchResult result
             (λ count. CardRun R.Reading k requests.now count cells.old cells.new work.old work.new answers.old answers.new)
             (Short (length requests.now) (length answers.old)) }
         ensures refused { MatchResult result (λ _. length requests.now ≤ length answers.old) (λ _. (cells.new ≡ cells.old) × (work.new ≡ work.old) × (answers.new ≡ answers.old)) }
