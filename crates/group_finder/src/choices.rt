@@ -62,7 +62,7 @@ struct Choice<M, R> {
     reading: R,
 }
 
-// The sum of `a` and `s`, and the difference of `b` and `s`.
+// The sum of `a` and `s`, and the difference of `b` and `s`; `butterfly` of `hadamard` is this for one left side.
 fn plus_minus<R: Reading>(a: R, b: R, s: R) -> (R, R)
     requires { (R.Reading.size a + R.Reading.size s ≤ sum_limit) × (R.Reading.size b + R.Reading.size s ≤ sum_limit) }
     ensures sum { R.Reading.weight result.0 ≡ R.Reading.weight a +ℤ R.Reading.weight s }
@@ -136,6 +136,7 @@ impl<'a, R: Reading> Lists<'a, R> {
     }
 
     // The best choices of the group rows of even and of odd number, for the choice t of the others.
+    // A loop by number: j is the list's number and the place of the row's digit.
     fn by_parity<M: Message>(&self, t: usize) -> (Choice<M, R>, Choice<M, R>)
         requires { (1 ≤ self.now.count) × (t < self.now.span) }
         ensures { KeptByParity M.Message.keeps R.Reading
@@ -208,7 +209,7 @@ impl<'a, R: Reading> Lists<'a, R> {
     }
 
     // The best message, and a reading that weighs what it gets.
-    // Not inlined: a span that the compiler does not know as a power of two is added from list to list, not shifted anew.
+    // A loop by number: t is the upper part of a message. Not inlined: a span that the compiler does not know as a power of two is added from list to list, not shifted anew.
     #[inline(never)]
     pub(crate) fn best(&self) -> Found<R>
         ensures top { Top (group_value (weight_at R.Reading.weight self.now.readings.now) self.now.span self.now.count) (self.now.span * 2 ^ self.now.count) result.message }

@@ -34,7 +34,7 @@ pub struct GroupFinder {
     ghost concur: { Concur (take group plain.rows) },
 }
 
-// The number of choices of so many rows.
+// The number of choices of so many rows; `message_count` of `finder`, private there, is no shorter for being shared.
 fn choice_count(rows: usize) -> usize
     requires { rows ≤ max_section_rows }
     ensures { result ≡ 2 ^ rows }

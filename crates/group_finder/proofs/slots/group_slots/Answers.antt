@@ -1,4 +1,4 @@
-use Rattle.std.proofs.Common.{◌≡◌, ℕ, ◌+◌, ◌*◌, ◌/◌, ◌^◌, ◌<◌, ◌≤◌, List, length, get_or, take, set, sym, ap, ◌∙◌, subst, ap₂, arith, pow_mono, rules, below_more}
+use Rattle.std.proofs.Common.{◌≡◌, ℕ, ◌+◌, ◌*◌, ◌/◌, ◌^◌, ◌<◌, ◌≤◌, List, length, get_or, take, set, sym, ap, ◌∙◌, subst, ap₂, arith, pow_mono, below_more}
 use lib.Arith.{digits_div, digits_lt}
 use Rattle.std.proofs.lemmas.List.{get_or-set_same, get_or-set_other, length-set, take_all}
 use Rattle.finder.specs.Fold.{column, column_rows}
@@ -10,10 +10,6 @@ use Rattle.group_finder.proofs.slots.group_slots.Goals as goal
 -- the columns of few rows are those of all of them
 few_column : (rows : List ℕ) (i : ℕ) → length rows ≤ 8 → column (take column_rows rows) i ≡ column rows i
 few_column rows i h = ap (λ (r : List ℕ). column r i) (take_all column_rows rows (omega arith))
-
-pub loop-i-init : goal.loop-i-init
-loop-i-init c =
-    (search rules, (λ k h. absurd (omega arith)), (λ k h. absurd (omega arith)), (λ k h l. c.columns-slots.ensures k (let p = c.places-i-end.ensures.value in omega arith) ∙ few_column c.args.others.now k c.requires.few.1))
 
 pub slot_of-slot-requires : goal.slot_of-slot-requires
 slot_of-slot-requires c =

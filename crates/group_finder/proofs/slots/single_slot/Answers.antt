@@ -5,6 +5,7 @@ use Rattle.std.proofs.lemmas.Bool.{both_ways, cases_eq, eq-eqb, eqb-true}
 use Rattle.std.proofs.lemmas.Nat.{pow_pos}
 use Rattle.std.proofs.lemmas.Nat.Bits.{bit_at-trailing_zeros, bit_at-pow_other}
 use Rattle.std.specs.Int.{trailing_zeros, w64}
+use Rattle.std.specs.Int.Count.{ones-ones}
 use lib.Count.{ones_step}
 use Rattle.hadamard.proofs.Signs.{ones_0}
 use Rattle.group_finder.specs.Choices.{Concurs, Slotted}
@@ -21,17 +22,6 @@ count_ones-pow (suc j) =
     let i = count_ones-pow j in
     omega arith
 
-count_ones-mask : (j : ℕ) → count_ones (2 ^ j - 1) ≡ j
-count_ones-mask zero = ones_0
-count_ones-mask (suc j) =
-    let p = pow-succ' 2 j in
-    let q = pow_pos j in
-    let l : (2 ^ suc j - 1) % 2 ≡ 1 = omega arith in
-    let h : (2 ^ suc j - 1) / 2 ≡ 2 ^ j - 1 = omega arith in
-    let s = ones_step (2 ^ suc j - 1) ∙ ap₂ (λ (x y : ℕ). x + count_ones y) l h in
-    let i = count_ones-mask j in
-    omega arith
-
 trailing_zeros-pow : (j : ℕ) → j < 64 → trailing_zeros w64 (2 ^ j) ≡ j
 trailing_zeros-pow j h =
     let b = bit_at-trailing_zeros w64 (2 ^ j) (pow_pos j) (pow-lt h) in
@@ -45,7 +35,7 @@ alone J c f d o =
     (λ r. inr (inl (⊎_elim
     (λ k. let l = k.1.0 in (k.0, (l, k.1.1, ap (λ (x : ℕ). trailing_zeros w64 x + 1) k.1.1 ∙ ap (λ (x : ℕ). x + 1) (trailing_zeros-pow k.0 (omega arith)))))
     (λ e.
-    let j : J ≡ 1 = sym (count_ones-mask J) ∙ ap count_ones (sym e) ∙ o in
+    let j : J ≡ 1 = sym (ones-ones J) ∙ ap count_ones (sym e) ∙ o in
     let one : c ≡ 2 ^ 0 = e ∙ ap (λ (x : ℕ). 2 ^ x - 1) j in
     (0, (omega arith, one, ap (λ (x : ℕ). trailing_zeros w64 x + 1) one ∙ ap (λ (x : ℕ). x + 1) (trailing_zeros-pow 0 (omega arith)))))
     r)))

@@ -1,19 +1,11 @@
-use Rattle.std.proofs.Common.{◌≡◌, ℕ, ◌+◌, ◌-◌, ◌*◌, ◌≤◌, List, length, take, drop, sum_by, sym, ap, ◌∙◌, subst, arith, rules}
+use Rattle.std.proofs.Common.{◌≡◌, ℕ, ◌+◌, ◌-◌, ◌*◌, ◌≤◌, List, length, take, drop, sum_by, sym, ap, ◌∙◌, subst, arith}
 use borrow.Rule.Slice.PartMut.{put_mid}
 use Rattle.code.specs.Limits.{sum_limit}
 use Rattle.hadamard.specs.Transform.{Transformed}
 use Rattle.group_finder.specs.Choices.{PartsDone}
 use Rattle.finder.specs.PlainRows.{transform_taken}
-use Rattle.group_finder.proofs.Parts.{room, part_same, part_long, part_small, parts_step, parts_rest}
+use Rattle.group_finder.proofs.Parts.{part_same, part_long, part_small, parts_step, parts_rest}
 use Rattle.group_finder.proofs.slots.transform_parts.Goals as goal
-
-pub offset_bounds-lists-from : goal.offset_bounds-lists-from
-offset_bounds-lists-from g c =
-    let r = room g.R.Reading c.args.span c.loop-q.q c.args.count c.args.lists.now c.loop-q.lists c.loop-q.lists (c.loop-q.auto.lists ∙ c.requires.long) c.loop-q-test.true c.loop-q.invariant.1 in
-    let l = c.requires.long in
-    let h : c.loop-q.q * c.args.span ≤ length c.args.lists.now = omega arith in
-    let k : c.loop-q.q * c.args.span ≤ length c.loop-q.lists = (let m = c.loop-q.auto.lists in omega arith) in
-    search rules
 
 pub loop-q-preserved : goal.loop-q-preserved
 loop-q-preserved g c =
