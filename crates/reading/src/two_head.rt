@@ -56,6 +56,7 @@ impl Reading for TwoHead {
         }
     }
 
+    #[tactic(auto, using(std::proofs::lemmas::Int::ints))]
     fn below(self, other: TwoHead) -> bool {
         self < other
     }
