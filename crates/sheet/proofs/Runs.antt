@@ -165,12 +165,15 @@ search_by kind own finder by name t u before after r es er en law =
     let P : ℕ → List ℕ → ℕ → Type 0 = λ span rows need. MatchResult r
     (λ f. Answered kind.weight kind.size span rows need (front t) before after f.message f.reading) (λ e. Refused kind.size span need (front t) before after e) in
     record {
-      book = λ h st. let b = law.book h st in (b.0, record {
-        length_differs = λ d. b.1.length_differs (λ e. d (e ∙ es));
-        work_short = λ e w. b.1.work_short (e ∙ sym es) (subst (λ k. length before < k) (sym en) w);
-        answered = λ e w. subst (λ rows. (f : Found _) × (r ≡ Ok f) × Best rows (book_at kind h t).totals f.message × (kind.weight f.reading ≡ agrees rows (book_at kind h t).totals f.message)) er
-            (b.1.answered (e ∙ sym es) (subst (λ k. k ≤ length before) (sym en) w));
-      });
+      book = λ h st. let b = law.book h st in (
+        b.0,
+        record {
+          length_differs = λ d. b.1.length_differs (λ e. d (e ∙ es));
+          work_short = λ e w. b.1.work_short (e ∙ sym es) (subst (λ k. length before < k) (sym en) w);
+          answered = λ e w. subst (λ rows. (f : Found _) × (r ≡ Ok f) × Best rows (book_at kind h t).totals f.message × (kind.weight f.reading ≡ agrees rows (book_at kind h t).totals f.message)) er
+              (b.1.answered (e ∙ sym es) (subst (λ k. k ≤ length before) (sym en) w));
+        },
+      );
       cells = subst (λ x. P x (by.rows name) (by.need name)) es (subst (λ x. P (own.span finder) x (by.need name)) er (subst (λ x. P (own.span finder) (own.rows finder) x) en law.cells));
       same = law.same;
     }
@@ -179,11 +182,11 @@ search_by kind own finder by name t u before after r es er en law =
 pub served_search : {R N : Type 0} (kind : Ghosts R) (by : FinderGhosts N) (name : Bor N) (t u : Sheet R) (before after : List R) (r : Result (Found R) Refusal) →
     SearchLaw kind t u by name.now before after r → Served kind by (length before) t u (request.Search name) before after (Searched r)
 served_search kind by name t u before after r law = record {
-    book = λ h st. let b = law.book h st in (b.0, (r, refl, b.1));
-    call = (r, refl, law);
-    kept = kept_same law.same;
-    spared = spares r law.cells;
-  }
+  book = λ h st. let b = law.book h st in (b.0, (r, refl, b.1));
+  call = (r, refl, law);
+  kept = kept_same law.same;
+  spared = spares r law.cells;
+}
   where
     spares : (x : Result (Found _) Refusal) → MatchResult x
         (λ f. Answered kind.weight kind.size (by.span name.now) (by.rows name.now) (by.need name.now) (front t) before after f.message f.reading)
