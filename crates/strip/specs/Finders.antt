@@ -1,6 +1,6 @@
 -- The two finders of a card.
-use Rattle.std.specs.Prelude.{◌≡◌, ℕ, List}
-use Rattle.card.specs.Cards.{Card, rows_of}
+use Rattle.std.specs.Prelude.{◌≡◌}
+use Rattle.card.specs.Cards.{Card}
 use Rattle.card_finder.specs.Whole.{group_need_at, group_rows, group_span, need_of_two, plain_need, plain_rows, plain_span, rows_of_two, span_of_two}
 use Rattle.coset_layer.specs.declared.CosetLayer.{CosetLayer}
 use Rattle.finder.specs.Sides.{of_side}
