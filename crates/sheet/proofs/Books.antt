@@ -1,5 +1,5 @@
 -- What each call does to the book, and to a sheet that stands for it.
-use Rattle.std.proofs.Common.{◌≡◌, ℕ, suc, ◌+◌, ◌*◌, ◌<◌, ◌≤◌, min, cond, List, [], ◌∷◌, ◌++◌, map, length, get_or, take, set, replicate, ℤ, pos, ◌+ℤ◌, Some, Ok, Err, sym, refl, ap, ◌∙◌, subst, ap₂, inl, inr, arith}
+use Rattle.std.proofs.Common.{◌≡◌, ℕ, suc, ◌+◌, ◌*◌, ◌<◌, ◌≤◌, min, cond, List, [], ◌∷◌, ◌++◌, map, length, get_or, take, set, replicate, pos, ◌+ℤ◌, Some, Ok, Err, sym, refl, ap, ◌∙◌, subst, ap₂, inl, inr, arith}
 use borrow.Author.Tests.{lt-true, le-false}
 use lib.Seq.{take-set-lt}
 use Rattle.std.proofs.lemmas.List.{length-map, length-take, length-set, get_or-take, get_or-set_same, get_or-set_other, map-set, set_past}
