@@ -1,11 +1,11 @@
 -- The bytes of a card file, written and read.
 use Rattle.std.proofs.Common.{◌≡◌, ℕ, zero, suc, ◌+◌, ◌-◌, ◌*◌, ◌<◌, ◌≤◌, Bool, cond, List, [], ◌∷◌, ◌++◌, length, take, drop, set, Ok, Err, Result, sym, refl, ap, ◌∙◌, ap₂, append_assoc, arith, length-append}
-use Rattle.std.proofs.lemmas.List.{take_at, drop_at, drop-drop, length-take-le, append-nil}
+use Rattle.std.proofs.lemmas.List.{take_at, drop_at, drop-drop, append-nil}
 use Rattle.std.proofs.lemmas.Bool.{lt-ltb, le-ltb}
 use Rattle.code.specs.declared.refusal.Section.{Section}
 use Rattle.code.specs.declared.refusal.Refusal.{Refusal}
 use Rattle.code.specs.declared.refusal.Refusal.TheVariants.{BytesEndEarly}
-use Rattle.card.specs.Cards.{Card, verdict, pushed}
+use Rattle.card.specs.Cards.{Card, rows_of, verdict, pushed}
 use Rattle.card_file.specs.Files.{row_bytes, row_of, rows_bytes, section_bytes, file_of, read_rows_lem, on_ok}
 
 pub bytes_push : (xs : List ℕ) (r : ℕ) → rows_bytes (xs ++ r ∷ []) ≡ rows_bytes xs ++ row_bytes r
@@ -58,7 +58,10 @@ read_more s (suc n) k bs u h l v =
 pub section_length : (xs : List ℕ) → length (section_bytes xs) ≡ 1 + 8 * length xs
 section_length xs = omega (arith, bytes_length xs)
 
-pub file_length : (k : Card) → length (file_of k) ≡ 4 + 8 * (length k.group + length k.transform + length k.coset)
+rows_length : (k : Card) → length (rows_of k) ≡ length k.group + length k.transform + length k.coset
+rows_length k = omega (arith, length-append k.group (k.transform ++ k.coset), length-append k.transform k.coset)
+
+pub file_length : (k : Card) → length (file_of k) ≡ 4 + 8 * length (rows_of k)
 file_length k =
     omega (
       arith,
@@ -67,6 +70,7 @@ file_length k =
       section_length k.group,
       section_length k.transform,
       section_length k.coset,
+      rows_length k,
     )
 
 pub file_written : (k : Card) (n size : ℕ) (new out : List ℕ) → 0 < length out → n ≡ k.len → size ≡ length (file_of k) → new ≡ section_bytes k.group ++ (section_bytes k.transform ++ section_bytes k.coset)

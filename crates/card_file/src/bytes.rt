@@ -1,6 +1,9 @@
 ghost use Rattle.std.specs.Prelude.{◌≡◌, ◌+◌, ◌*◌, ◌≤◌, ◌++◌, length};
-ghost use Rattle.card.specs.Cards.{max_section_rows};
+ghost use Rattle.card.specs.Cards.{max_section_rows, rows_of};
 ghost use Rattle.card_file.specs.Files.{row_size, rows_bytes, section_bytes};
+
+use card::states::FinishedCard;
+use code::refusal::Section;
 
 // How many bytes a row takes.
 pub(crate) const ROW_SIZE: usize = 8;
@@ -14,18 +17,17 @@ fn section_size(rows: &[u64]) -> usize
 }
 
 // Writes the three sections into memory of just their size.
-pub(crate) fn write_sections(out: &mut [u8], group: &[u64], transform: &[u64], coset: &[u64])
-    requires group_few { length group.now ≤ max_section_rows }
-    requires transform_few { length transform.now ≤ max_section_rows }
-    requires coset_few { length coset.now ≤ max_section_rows }
-    requires size { length out.old ≡ 3 + row_size * (length group.now + length transform.now + length coset.now) }
-    ensures { out.new ≡ section_bytes group.now ++ (section_bytes transform.now ++ section_bytes coset.now) }
+pub(crate) fn write_sections(card: &FinishedCard, out: &mut [u8])
+    requires { length out.old ≡ 3 + row_size * length (rows_of card.now) }
+    ensures { out.new ≡ section_bytes card.now.group ++ (section_bytes card.now.transform ++ section_bytes card.now.coset) }
 {
+    let group = card.section_rows(Section::Group);
+    let transform = card.section_rows(Section::Transform);
     let (first, others) = out.split_at_mut(section_size(group));
     let (second, third) = others.split_at_mut(section_size(transform));
     write_section(first, group);
     write_section(second, transform);
-    write_section(third, coset);
+    write_section(third, card.section_rows(Section::Coset));
 }
 
 // Writes a count byte and rows into memory of just their size.

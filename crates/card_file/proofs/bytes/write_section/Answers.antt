@@ -1,4 +1,4 @@
-use Rattle.std.proofs.Common.{◌<◌, ◌-◌, ◌∷◌, ◌++◌, length, set, ap, ◌∙◌, arith, length-set, suc, refl}
+use Rattle.std.proofs.Common.{◌<◌, ◌-◌, length, set, ◌∙◌, arith, length-set, suc, refl}
 use Rattle.std.proofs.lemmas.List.{append-nil, drop_all}
 use Rattle.card_file.proofs.FileBytes.{first_then}
 use Rattle.card_file.proofs.bytes.write_section.Goals as goal

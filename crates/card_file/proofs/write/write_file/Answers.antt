@@ -1,7 +1,7 @@
-use Rattle.std.proofs.Common.{◌≡◌, ◌+◌, ◌-◌, ◌*◌, ◌<◌, true, false, ltb, ◌++◌, length, take, drop, sym, ap, ◌∙◌, arith}
+use Rattle.std.proofs.Common.{◌≡◌, ◌+◌, ◌*◌, true, false, ltb, length, take, drop, sym, ap, ◌∙◌, arith}
 use Rattle.std.proofs.lemmas.List.{take_at}
 use Rattle.std.proofs.lemmas.Bool.{lt-ltb, le-ltb}
-use Rattle.card_file.specs.Files.{file_of, read_card_lem, section_bytes}
+use Rattle.card_file.specs.Files.{file_of, read_card_lem}
 use Rattle.card_file.proofs.FileBytes.{file_length, file_written}
 use Rattle.card_file.proofs.RoundTrip.{read_back}
 use Rattle.card_file.proofs.write.write_file.Goals as goal
@@ -10,23 +10,18 @@ pub returns-then-out-size : goal.returns-then-out-size
 returns-then-out-size c =
     let k = c.args.card.now in
     let out = c.args.out.now in
-    let b : ltb (length out) (length (file_of k)) ≡ true = lt-ltb (length out) (length (file_of k))
-    (omega (arith, file_length k, ap length c.section_rows-group.ensures.value, ap length c.section_rows-transform.ensures.value, ap length c.section_rows-coset.ensures.value)) in
+    let b : ltb (length out) (length (file_of k)) ≡ true = lt-ltb (length out) (length (file_of k)) (omega (arith, file_length k, ap length c.rows.ensures.value)) in
     record { answer = simp b; bytes = simp b; back = tt }
 
 pub returns : goal.returns
 returns c =
     let k = c.args.card.now in
     let out = c.args.out.now in
-    let G = c.section_rows-group.ensures.value in
-    let T = c.section_rows-transform.ensures.value in
-    let C = c.section_rows-coset.ensures.value in
+    let size = 4 + 8 * length c.rows.result.now in
     let n = c.places.ensures.value ∙ c.word_length.ensures.value in
-    let size = 4 + 8 * (length c.section_rows-group.result.now + length c.section_rows-transform.result.now + length c.section_rows-coset.result.now) in
-    let all : size ≡ length (file_of k) = omega (arith, file_length k, ap length G, ap length T, ap length C) in
+    let all : size ≡ length (file_of k) = omega (arith, file_length k, ap length c.rows.ensures.value) in
     let f : ltb (length out) (length (file_of k)) ≡ false = le-ltb (length out) (length (file_of k)) (omega (arith, all)) in
-    let same : c.write_sections.new.out ≡ section_bytes k.group ++ (section_bytes k.transform ++ section_bytes k.coset) = rw (← G, ← T, ← C) c.write_sections.ensures in
-    let written = file_written k c.places.result size c.write_sections.new.out out (omega arith) n all same in
+    let written = file_written k c.places.result size c.write_sections.new.out out (omega arith) n all c.write_sections.ensures in
     record {
       answer = simp (f, all);
       bytes = rw f written;
