@@ -1,5 +1,5 @@
 -- The tests of the definitions say what the relations say.
-use Rattle.std.proofs.Common.{◌≡◌, ℕ, zero, suc, ◌+◌, ◌*◌, ◌/◌, ◌%◌, ◌^◌, ◌<◌, ◌≤◌, Bool, true, false, ◌||◌, eqb, ltb, List, [], ◌∷◌, length, sym, refl, ap, ◌∙◌, subst, ap₂, inl, inr, le_trans, mod-lt, one-mul, zero-mul, arith}
+use Rattle.std.proofs.Common.{◌≡◌, ℕ, zero, suc, ◌+◌, ◌*◌, ◌/◌, ◌%◌, ◌^◌, ◌<◌, ◌≤◌, true, ◌||◌, eqb, ltb, List, [], ◌∷◌, length, sym, refl, ap, ◌∙◌, subst, ap₂, inl, inr, le_trans, mod-lt, one-mul, zero-mul, arith}
 use native.Mathlib.Nat.{div-eq_of_lt, pow-le-pow_right}
 use lib.Arith.{digits_div, digits_mod}
 use lib.Bits.{bit_xor, xor_comm}
@@ -9,11 +9,6 @@ use Rattle.code.specs.Spans.{Span}
 use Rattle.card.specs.Rows.{tally, dependent, concordant, Concur, Within}
 use Rattle.code.proofs.Xor.{cancel, digit_two}
 use Rattle.code.proofs.Spans.{two_pos, span_any}
-
-pub bool_same : (a b : Bool) → (a ≡ true → b ≡ true) → (b ≡ true → a ≡ true) → a ≡ b
-bool_same true b f g = sym (f refl)
-bool_same false true f g = g refl
-bool_same false false f g = refl
 
 pub span_from_dependent : (rows : List ℕ) (x : ℕ) → dependent rows x ≡ true → Span rows x
 span_from_dependent [] x t = (0, omega arith, sym (eqb-true x 0 t))

@@ -16,11 +16,7 @@ use Rattle.card.specs.declared.table.Table.TheInside.{Inside}
 use Rattle.card.specs.Tables.{card_of, table_of, rows_joined, table_of-card_of, IsTable}
 use Rattle.card.proofs.Tables.{within_push, within_left}
 
--- an answer that lets the row in
-accepts : Result (Unit {0}) Refusal → Bool
-accepts (Ok _) = true
-accepts (Err _) = false
-
+-- a row that each of the four checks let by
 pub record Passed (k : Card) (s : Section) (row : ℕ) : Type 0 where
   pub inside : row < 2 ^ k.len
   pub room : length (section_of k s) < max_section_rows
@@ -30,12 +26,11 @@ pub record Passed (k : Card) (s : Section) (row : ℕ) : Type 0 where
 four : (u : Unit {0}) (a b d e : Bool) (x y z w : Refusal)
     → ◌≡◌ {A = Result (Unit {0}) Refusal} (Ok u) (cond a (Err x) (cond b (Err y) (cond d (Err z) (cond e (Ok tt) (Err w)))))
     → (a ≡ false) × (b ≡ false) × (d ≡ false) × (e ≡ true)
-unfolding accepts
 four u false false false true x y z w h = (refl, refl, refl, refl)
-four u true b d e x y z w h = absurd (both_ways true (ap accepts h) refl)
-four u false true d e x y z w h = absurd (both_ways true (ap accepts h) refl)
-four u false false true e x y z w h = absurd (both_ways true (ap accepts h) refl)
-four u false false false false x y z w h = absurd (both_ways true (ap accepts h) refl)
+four u true b d e x y z w h = absurd cc
+four u false true d e x y z w h = absurd cc
+four u false false true e x y z w h = absurd cc
+four u false false false false x y z w h = absurd cc
 
 pub passed : (u : Unit {0}) (k : Card) (s : Section) (row : ℕ) → Ok u ≡ verdict k s row → Passed k s row
 passed u k s row h =

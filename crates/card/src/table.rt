@@ -13,7 +13,7 @@ pub(crate) const CARD_ROWS: usize = 24;
 
 // The word length and the rows of a card: group rows first, then transform rows, and the others are coset rows.
 #[derive(PartialEq, Eq, Debug, Drop)]
-pub struct Table {
+pub(crate) struct Table {
     len: WordLength,
     rows: Rows<CARD_ROWS>,
     group: usize,

@@ -1,11 +1,11 @@
 -- The bytes of a card file, written and read.
 use Rattle.std.proofs.Common.{◌≡◌, ℕ, zero, suc, ◌+◌, ◌-◌, ◌*◌, ◌<◌, ◌≤◌, Bool, cond, List, [], ◌∷◌, ◌++◌, length, take, drop, set, Ok, Err, Result, sym, refl, ap, ◌∙◌, ap₂, append_assoc, arith, length-append}
-use Rattle.std.proofs.lemmas.List.{take_at, drop_at, drop-drop, length-take-le, append-nil}
+use Rattle.std.proofs.lemmas.List.{take_at, drop_at, drop-drop, append-nil}
 use Rattle.std.proofs.lemmas.Bool.{lt-ltb, le-ltb}
 use Rattle.code.specs.declared.refusal.Section.{Section}
 use Rattle.code.specs.declared.refusal.Refusal.{Refusal}
 use Rattle.code.specs.declared.refusal.Refusal.TheVariants.{BytesEndEarly}
-use Rattle.card.specs.Cards.{Card, verdict, pushed}
+use Rattle.card.specs.Cards.{Card, rows_of, verdict, pushed}
 use Rattle.card_file.specs.Files.{row_bytes, row_of, rows_bytes, section_bytes, file_of, read_rows_lem, on_ok}
 
 pub bytes_push : (xs : List ℕ) (r : ℕ) → rows_bytes (xs ++ r ∷ []) ≡ rows_bytes xs ++ row_bytes r
@@ -16,18 +16,17 @@ pub bytes_length : (xs : List ℕ) → length (rows_bytes xs) ≡ 8 * length xs
 bytes_length [] = refl
 bytes_length (x ∷ xs) = length-append (row_bytes x) (rows_bytes xs) ∙ omega (arith, bytes_length xs)
 
--- one row more after what is written
-pub written_more : (E B out : List ℕ) (a p r : ℕ) → a ≤ length E → a + length B ≡ p → out ≡ take a E ++ (B ++ drop p E)
-    → take p out ++ (row_bytes r ++ drop (p + 8) out) ≡ take a E ++ ((B ++ row_bytes r) ++ drop (p + 8) E)
-written_more E B out a p r la lp e =
-    let A = take a E in
-    let n : length (A ++ B) ≡ p = length-append A B ∙ ap (λ (k : ℕ). k + length B) (length-take-le a E la) ∙ lp in
-    let e' : out ≡ (A ++ B) ++ drop p E = e ∙ sym (append_assoc A B (drop p E)) in
-    let front : take p out ≡ A ++ B = ap (take p) e' ∙ take_at (A ++ B) (drop p E) p n in
-    let back : drop (p + 8) out ≡ drop (p + 8) E = sym (drop-drop 8 p out) ∙ ap (drop 8) (ap (drop p) e' ∙ drop_at (A ++ B) (drop p E) p n) ∙ drop-drop 8 p E in
-    ap₂ (λ (x y : List ℕ). x ++ (row_bytes r ++ y)) front back
-    ∙ append_assoc A B (row_bytes r ++ drop (p + 8) E)
-    ∙ ap (λ (l : List ℕ). A ++ l) (sym (append_assoc B (row_bytes r) (drop (p + 8) E)))
+-- one piece more after what is written
+pub written_more : (E B out new : List ℕ) (p k : ℕ) → length B ≡ p → out ≡ B ++ drop p E → take p out ++ (new ++ drop k (drop p out)) ≡ (B ++ new) ++ drop (p + k) E
+written_more E B out new p k l e =
+    let front : take p out ≡ B = ap (take p) e ∙ take_at B (drop p E) p l in
+    let back : drop k (drop p out) ≡ drop (p + k) E = ap (drop k) (ap (drop p) e ∙ drop_at B (drop p E) p l) ∙ drop-drop k p E in
+    ap₂ (λ (x y : List ℕ). x ++ (new ++ y)) front back ∙ sym (append_assoc B new (drop (p + k) E))
+
+-- a first byte, and what is written after it
+pub first_then : (n k : ℕ) (new out : List ℕ) → 0 < length out → take 1 (set out 0 n) ++ (new ++ drop k (drop 1 (set out 0 n))) ≡ n ∷ (new ++ drop (suc k) out)
+first_then n k new [] h = absurd (omega arith)
+first_then n k new (x ∷ out) h = refl
 
 -- ---- reading rows
 
@@ -59,7 +58,10 @@ read_more s (suc n) k bs u h l v =
 pub section_length : (xs : List ℕ) → length (section_bytes xs) ≡ 1 + 8 * length xs
 section_length xs = omega (arith, bytes_length xs)
 
-pub file_length : (k : Card) → length (file_of k) ≡ 4 + 8 * (length k.group + length k.transform + length k.coset)
+rows_length : (k : Card) → length (rows_of k) ≡ length k.group + length k.transform + length k.coset
+rows_length k = omega (arith, length-append k.group (k.transform ++ k.coset), length-append k.transform k.coset)
+
+pub file_length : (k : Card) → length (file_of k) ≡ 4 + 8 * length (rows_of k)
 file_length k =
     omega (
       arith,
@@ -68,40 +70,13 @@ file_length k =
       section_length k.group,
       section_length k.transform,
       section_length k.coset,
+      rows_length k,
     )
 
-pub section_more : (P S E out : List ℕ) (p q : ℕ) → length P ≡ p → q ≡ p + length S → out ≡ P ++ drop p E
-    → take p out ++ (S ++ drop q out) ≡ (P ++ S) ++ drop q E
-section_more P S E out p q lp lq e =
-    let front : take p out ≡ P = ap (take p) e ∙ take_at P (drop p E) p lp in
-    let back : drop q out ≡ drop q E =
-    ap (λ (n : ℕ). drop n out) lq ∙ sym (drop-drop (length S) p out) ∙ ap (drop (length S)) (ap (drop p) e ∙ drop_at P (drop p E) p lp) ∙ drop-drop (length S) p E ∙ ap (λ (n : ℕ). drop n E) (sym lq) in
-    ap₂ (λ (x y : List ℕ). x ++ (S ++ y)) front back ∙ sym (append_assoc P S (drop q E))
-
-pub first_set : (x : ℕ) (E : List ℕ) → 0 < length E → set E 0 x ≡ (x ∷ []) ++ drop 1 E
-first_set x [] h = absurd (omega arith)
-first_set x (y ∷ E) h = refl
-
-pub file_joined : (k : Card) (rest : List ℕ) → ((((k.len ∷ []) ++ section_bytes k.group) ++ section_bytes k.transform) ++ section_bytes k.coset) ++ rest ≡ file_of k ++ rest
-file_joined k rest = ap (λ (l : List ℕ). l ++ rest) (ap (λ (l : List ℕ). k.len ∷ l) (append_assoc (section_bytes k.group) (section_bytes k.transform) (section_bytes k.coset)))
-
-pub three_written : (n : ℕ) (G T C : List ℕ) (out o₁ o₂ o₃ : List ℕ) (g t e : ℕ) → 0 < length out
-    → g ≡ 1 + 1 + 8 * length G → o₁ ≡ take 1 (set out 0 n) ++ (section_bytes G ++ drop g (set out 0 n))
-    → t ≡ g + 1 + 8 * length T → o₂ ≡ take g o₁ ++ (section_bytes T ++ drop t o₁)
-    → e ≡ t + 1 + 8 * length C → o₃ ≡ take t o₂ ++ (section_bytes C ++ drop e o₂)
-    → (e ≡ length (file_of (record { len = n; group = G; transform = T; coset = C }))) × (o₃ ≡ file_of (record { len = n; group = G; transform = T; coset = C }) ++ drop e out)
-three_written n G T C out o₁ o₂ o₃ g t e some eg e₁ et e₂ ee e₃ =
-    let k : Card = record { len = n; group = G; transform = T; coset = C } in
-    let P₁ = (n ∷ []) ++ section_bytes G in
-    let P₂ = P₁ ++ section_bytes T in
-    let s₁ = e₁ ∙ section_more (n ∷ []) (section_bytes G) out (set out 0 n) 1 g refl (omega (arith, eg, section_length G)) (first_set n out some) in
-    let l₁ : length P₁ ≡ g = omega (arith, eg, section_length G) in
-    let s₂ = e₂ ∙ section_more P₁ (section_bytes T) out o₁ g t l₁ (omega (arith, et, section_length T)) s₁ in
-    let l₂ : length P₂ ≡ t = length-append P₁ (section_bytes T) ∙ omega (arith, l₁, et, section_length T) in
-    let s₃ = e₃ ∙ section_more P₂ (section_bytes C) out o₂ t e l₂ (omega (arith, ee, section_length C)) s₂ in
-    (omega (arith, eg, et, ee, file_length k), s₃ ∙ file_joined k (drop e out))
-
--- a card by its parts
-pub card_is : (k : Card) {n : ℕ} {g t c : List ℕ} → n ≡ k.len → g ≡ k.group → t ≡ k.transform → c ≡ k.coset
-    → ◌≡◌ {A = Card} (record { len = n; group = g; transform = t; coset = c }) k
-card_is k a p q r i = record { len = a i; group = p i; transform = q i; coset = r i }
+pub file_written : (k : Card) (n size : ℕ) (new out : List ℕ) → 0 < length out → n ≡ k.len → size ≡ length (file_of k) → new ≡ section_bytes k.group ++ (section_bytes k.transform ++ section_bytes k.coset)
+    → take 1 (set out 0 n) ++ (new ++ drop (size - 1) (drop 1 (set out 0 n))) ≡ file_of k ++ drop (length (file_of k)) out
+file_written k n size new out some e all is =
+    let last : suc (size - 1) ≡ length (file_of k) = omega (arith, all, file_length k) in
+    first_then n (size - 1) new out some
+    ∙ ap (λ (m : ℕ). n ∷ (new ++ drop m out)) last
+    ∙ ap₂ (λ (x : ℕ) (y : List ℕ). x ∷ (y ++ drop (length (file_of k)) out)) e is

@@ -13,7 +13,7 @@ use code::refusal::{Refusal, Section};
 // The largest count of a section.
 const MAX_COUNT: u8 = 8;
 
-// A card that takes rows into a section.
+// A card that takes rows into a section. By `OpenCard`, a file's reader would have to test for a move that never comes.
 trait TakesRows {
     ghost shown: { Self → Card };
 
@@ -79,16 +79,10 @@ pub fn read_card(bytes: &[u8], into: &mut FinishedCard) -> Result<(), Refusal>
     ensures refused { OnErr result (into.new ≡ into.old) }
     ensures rows { RowsAsAdded bytes.now }
 {
-    rows_stand(bytes);
     let card = read_file(bytes)?;
     *into = card;
     Ok(())
 }
-
-// Shows how a file's rows stand; nothing is done.
-fn rows_stand(bytes: &[u8])
-    ensures { RowsAsAdded bytes.now }
-{}
 
 // The card that a file describes.
 fn read_file(bytes: &[u8]) -> Result<FinishedCard, Refusal>

@@ -1,9 +1,9 @@
 ghost use Rattle.std.specs.Prelude.{◌≡◌, length, take, IfOk, Ok};
 ghost use Rattle.card_file.specs.Files.{file_of, overwritten, read_card_lem, wrote};
 
-use crate::bytes::{ROW_SIZE, write_section};
+use crate::bytes::{ROW_SIZE, write_sections};
 use card::states::FinishedCard;
-use code::refusal::{Refusal, Section};
+use code::refusal::Refusal;
 
 // The bytes of a file besides its rows: the word length and three counts.
 const FRAME: usize = 4;
@@ -23,16 +23,11 @@ fn write_file(card: &FinishedCard, out: &mut [u8]) -> Result<usize, Refusal>
     ensures bytes { out.new ≡ overwritten (file_of card.now) out.old }
     ensures back { IfOk result (λ end. read_card_lem (take end out.new) ≡ Ok card.now) }
 {
-    let group = card.section_rows(Section::Group);
-    let transform = card.section_rows(Section::Transform);
-    let coset = card.section_rows(Section::Coset);
-    let rows = group.len() + transform.len() + coset.len();
-    if out.len() < FRAME + ROW_SIZE * rows {
+    let size = FRAME + ROW_SIZE * card.rows().len();
+    if out.len() < size {
         return Err(Refusal::OutputShort);
     }
     out[0] = card.word_length().places() as u8;
-    let after_group = write_section(out, 1, group);
-    let after_transform = write_section(out, after_group, transform);
-    let end = write_section(out, after_transform, coset);
-    Ok(end)
+    write_sections(card, &mut out[1..size]);
+    Ok(size)
 }

@@ -1,9 +1,10 @@
 use Rattle.std.proofs.Common.{◌+◌, eqb, get_or, take, ap, ◌∙◌, subst}
 use Rattle.std.proofs.lemmas.List.{take_all, take_more, length_push}
 use Rattle.std.proofs.lemmas.Bool.{eqb-true, eq-eqb}
+use Rattle.std.specs.Cmp.{both_ways}
 use Rattle.card.specs.Rows.{dependent}
 use Rattle.card.specs.Echelon.{Reduced, SameSpan}
-use Rattle.card.proofs.Decided.{bool_same, dependent_from_span, span_from_dependent}
+use Rattle.card.proofs.Decided.{dependent_from_span, span_from_dependent}
 use Rattle.card.proofs.Echelons.{echelon_push, same_span_push, zero_spans, spans_zero}
 use Rattle.card.proofs.dependence.is_dependent.Goals as goal
 
@@ -28,6 +29,6 @@ returns c =
     let x = c.reduce.result in
     let same : SameSpan basis rows = subst (SameSpan basis) (take_all c.loop-other.other-index rows c.loop-other-test.false) c.loop-other.invariant.same in
     let r : Reduced basis row x = rw (← c.as_slice-2.ensures.value) c.reduce.ensures in
-    bool_same (eqb x 0) (dependent rows row)
+    both_ways (eqb x 0) (dependent rows row)
     (λ t. dependent_from_span rows row (zero_spans basis rows row x same r (eqb-true x 0 t)))
     (λ t. eq-eqb x 0 (spans_zero basis rows row x c.loop-other.invariant.echelon same r (span_from_dependent rows row t)))
