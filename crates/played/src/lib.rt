@@ -3,7 +3,6 @@
 ghost use Rattle.std.specs.Prelude.{◌≡◌, ℕ, ◌<◌, ◌≤◌, length, MatchResult, if◌then◌else◌, slice_index_or};
 ghost use Rattle.code.specs.Limits.{max_places};
 ghost use Rattle.code.specs.Words.{digit};
-ghost use Rattle.card.specs.Tables.{card_of};
 ghost use Rattle.sample.specs.declared.Sample.{Sample};
 ghost use Rattle.sheet.specs.Stands.{SearchLaw};
 ghost use Rattle.played.specs.Played.{level_for, played_as, Played, Written, Again};
@@ -50,8 +49,8 @@ fn write_message(
     levels: u64,
     samples: &mut [Sample],
 ) -> Result<usize, Refusal>
-    ensures answer { Played (card_of card.now.table) message (length samples.old) result }
-    ensures written { MatchResult result (λ _. Written (card_of card.now.table) message levels samples.old samples.new) (λ _. samples.new ≡ samples.old) }
+    ensures answer { Played card.now message (length samples.old) result }
+    ensures written { MatchResult result (λ _. Written card.now message levels samples.old samples.new) (λ _. samples.new ≡ samples.old) }
 {
     let n = card.word_length().places();
     if samples.len() < n {
@@ -70,8 +69,8 @@ pub fn play(
     levels: u64,
     samples: &mut [Sample],
 ) -> Result<usize, Refusal>
-    ensures answer { Played (card_of card.now.table) message (length samples.old) result }
-    ensures written { MatchResult result (λ _. Written (card_of card.now.table) message levels samples.old samples.new) (λ _. samples.new ≡ samples.old) }
+    ensures answer { Played card.now message (length samples.old) result }
+    ensures written { MatchResult result (λ _. Written card.now message levels samples.old samples.new) (λ _. samples.new ≡ samples.old) }
 {
     write_message(card, message, levels, samples)
 }

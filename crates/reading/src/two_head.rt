@@ -1,4 +1,5 @@
-ghost use Rattle.std.specs.Prelude.{◌≡◌, ◌^◌};
+ghost use Rattle.std.specs.Prelude.{◌≡◌, ◌+◌, ◌^◌, ◌≤◌, ◌+ℤ◌};
+ghost use Rattle.code.specs.Limits.{sum_limit};
 ghost use Rattle.reading.specs.Kinds.{heads_weight, heads_size, heads_opposite};
 ghost use Rattle.std.proofs.Common.{rules};
 
@@ -10,6 +11,20 @@ use std::fmt;
 pub struct TwoHead {
     pub main: i32,
     pub second: i32,
+}
+
+impl TwoHead {
+    // The sum, number by number.
+    fn plus(self, other: TwoHead) -> TwoHead
+        requires { heads_size self + heads_size other ≤ sum_limit }
+        ensures weighs { heads_weight result ≡ heads_weight self +ℤ heads_weight other }
+        ensures small { heads_size result ≤ heads_size self + heads_size other }
+    {
+        TwoHead {
+            main: self.main + other.main,
+            second: self.second + other.second,
+        }
+    }
 }
 
 impl Reading for TwoHead {
@@ -43,10 +58,7 @@ impl Reading for TwoHead {
     }
 
     fn add(self, other: TwoHead) -> TwoHead {
-        TwoHead {
-            main: self.main + other.main,
-            second: self.second + other.second,
-        }
+        self.plus(other)
     }
 
     fn negate(self) -> TwoHead {

@@ -1,6 +1,5 @@
 use Rattle.std.proofs.Common.{◌≡◌, length, Ok, ap, ◌∙◌, arith}
 use Rattle.std.proofs.lemmas.List.{length-take}
-use Rattle.card.specs.Tables.{card_of}
 use Rattle.played.proofs.Writes.{encoded_ok, written}
 use Rattle.played.proofs.write_message.Goals as goal
 
@@ -10,7 +9,7 @@ returns c =
     let xs = c.args.samples.now in
     let ys = c.write_digits.new.samples in
     let e = c.places-n.ensures.value ∙ c.word_length.ensures.value in
-    let w = encoded_ok (card_of c.args.card.now.table) c.args.message c.in_ok-word.word c.in_ok-word.ensures.answer in
+    let w = encoded_ok c.args.card.now c.args.message c.in_ok-word.word c.in_ok-word.ensures.answer in
     let room = c.if-samples-n.false in
     let l : length ys ≡ n = c.write_digits.auto.samples ∙ length-take _ xs ∙ omega arith in
     record {
