@@ -9,11 +9,7 @@ use code::refusal::{Refusal, Section};
 use std::io;
 
 // Prints what a row was told.
-fn show_answer(
-    rt: &HostRuntime,
-    what: &str,
-    answer: Result<(), Refusal>,
-) -> io::Result<()> {
+fn show_answer(rt: &HostRuntime, what: &str, answer: Result<(), Refusal>) -> io::Result<()> {
     match answer {
         Ok(()) => println!(rt; "  {what}: taken"),
         Err(refusal) => {
@@ -75,7 +71,10 @@ fn file(rt: &HostRuntime, card: &FinishedCard) -> anyhow::Result<()> {
     show_list(rt, bytes)?;
     let mut back = FinishedCard::new();
     read_card(bytes, &mut back).map_err(Error::msg)?;
-    println!(rt; "Read back, the card has words of {} places and", back.word_length().places())?;
+    println!(rt;
+        "Read back, the card has words of {} places and",
+        back.word_length().places()
+    )?;
     for section in [Section::Group, Section::Transform, Section::Coset] {
         print!(rt; "  {section} rows:")?;
         show_list(rt, back.section_rows(section))?;

@@ -11,8 +11,7 @@ use finder::Finder;
 use finder::plain::PlainFinder;
 use group_finder::GroupFinder;
 use reading::level::Level;
-use std::array;
-use std::io;
+use std::{array, io};
 
 // The words of the Golay code are the multiples of a polynomial with these exponents; its rows are twelve shifts of it.
 const GOLAY: u64 = (1 << 0) | (1 << 1) | (1 << 5) | (1 << 6) | (1 << 7) | (1 << 9) | (1 << 11);
@@ -66,8 +65,7 @@ fn search<F: Finder>(
     match finder.search(word, work) {
         Ok(found) => println!(rt;
             "  {name}: message {} with agreement {}, in {need} readings of work memory",
-            found.message,
-            found.reading
+            found.message, found.reading
         ),
         Err(refusal) => {
             print!(rt; "  {name}: ")?;

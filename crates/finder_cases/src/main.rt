@@ -40,9 +40,7 @@ fn run(rt: &HostRuntime) -> Result<(), Failure> {
     }
     println!(rt;
         "{} cards, {} words of both kinds, {} of them with several best messages",
-        seen.cards,
-        seen.words,
-        seen.ties
+        seen.cards, seen.words, seen.ties
     )?;
     println!(rt;
         "{} searches by plain and group finder under layers and by one of the two: each the plain search's message and weight",
@@ -52,7 +50,10 @@ fn run(rt: &HostRuntime) -> Result<(), Failure> {
         "{} searches by the group finder under a layer of rows that may depend: each the plain search's message and weight",
         seen.layers
     )?;
-    println!(rt; "{} refused searches: each its refusal, nothing changed", seen.refusals)?;
+    println!(rt;
+        "{} refused searches: each its refusal, nothing changed",
+        seen.refusals
+    )?;
     Ok(())
 }
 

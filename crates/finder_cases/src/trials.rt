@@ -106,7 +106,13 @@ fn try_refusals(
     let mut loud = word.to_vec(alloc)?;
     if let Some(reading) = loud.get_mut(place) {
         *reading = Level { value: 1048577 };
-        refuses(alloc, &group, loud.as_slice(), work, Refusal::SizeTooLarge { place })?;
+        refuses(
+            alloc,
+            &group,
+            loud.as_slice(),
+            work,
+            Refusal::SizeTooLarge { place },
+        )?;
     }
     seen.refusals = seen.refusals.wrapping_add(3);
     Ok(())
