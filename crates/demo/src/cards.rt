@@ -1,5 +1,6 @@
 use crate::ROWS;
 use crate::show::{show_list, show_refusal, show_word};
+use anyhow::{Context, Error};
 use card::states::{FinishedCard, GroupCard};
 use card_file::read::read_card;
 use card_file::write::write_card;
@@ -42,75 +43,58 @@ fn code_e(rt: &HostRuntime, length: WordLength) -> io::Result<FinishedCard> {
 }
 
 // Row 2 on the group of the code.
-fn row_2(rt: &HostRuntime, length: WordLength) -> io::Result<()> {
+fn row_2(rt: &HostRuntime, length: WordLength) -> anyhow::Result<()> {
     println!(rt; "On another card with the group rows 3 and 6:")?;
     let mut group = GroupCard::new(length);
-    let _ = group.add_row(ROWS[0]);
-    let _ = group.add_row(ROWS[1]);
-    show_answer(
-        rt,
-        "Group row 2 (whose one digit all three have)",
-        group.add_row(2),
-    )
+    group.add_row(ROWS[0]).map_err(Error::msg)?;
+    group.add_row(ROWS[1]).map_err(Error::msg)?;
+    let what = "Group row 2 (whose one digit all three have)";
+    Ok(show_answer(rt, what, group.add_row(2))?)
 }
 
 // A row too many.
-fn ninth_row(rt: &HostRuntime) -> io::Result<()> {
+fn ninth_row(rt: &HostRuntime) -> anyhow::Result<()> {
     println!(rt; "On a card of 9 places with eight group rows of one digit each:")?;
-    let Ok(nine) = WordLength::new(9) else {
-        return Ok(());
-    };
-    let mut full = GroupCard::new(nine);
-    let mut row = 1u64;
-    for _ in 0..8 {
-        let _ = full.add_row(row);
-        row = row.wrapping_mul(2);
+    let mut full = GroupCard::new(WordLength::new(9).map_err(Error::msg)?);
+    for place in 0..8u32 {
+        full.add_row(1 << place).map_err(Error::msg)?;
     }
-    show_answer(rt, "A ninth row", full.add_row(row))
-}
-
-fn show_rows(rt: &HostRuntime, card: &FinishedCard, section: Section) -> io::Result<()> {
-    print!(rt; "  {section} rows:")?;
-    show_list(rt, card.section_rows(section))
+    Ok(show_answer(rt, "A ninth row", full.add_row(1 << 8))?)
 }
 
 // Writes a card file, reads it back and encodes from the card that was read.
-fn file(rt: &HostRuntime, card: &FinishedCard) -> io::Result<()> {
-    let mut bytes = [0u8; 64];
-    let Ok(end) = write_card(card, &mut bytes) else {
-        return Ok(());
-    };
-    if end > bytes.len() {
-        return Ok(());
-    }
+fn file(rt: &HostRuntime, card: &FinishedCard) -> anyhow::Result<()> {
+    let mut bytes = [0; 64];
+    let end = write_card(card, &mut bytes).map_err(Error::msg)?;
+    let bytes = bytes.get(..end).context("the file of the card")?;
     println!(rt; "As a card file it has {end} bytes:")?;
-    show_list(rt, &bytes[0..end])?;
+    show_list(rt, bytes)?;
     let mut back = FinishedCard::new();
-    if read_card(&bytes[0..end], &mut back).is_ok() {
-        let places = back.word_length().places();
-        println!(rt; "Read back, the card has words of {places} places and")?;
+    read_card(bytes, &mut back).map_err(Error::msg)?;
+    println!(rt;
+        "Read back, the card has words of {} places and",
+        back.word_length().places()
+    )?;
+    for section in [Section::Group, Section::Transform, Section::Coset] {
+        print!(rt; "  {section} rows:")?;
+        show_list(rt, back.section_rows(section))?;
     }
-    show_rows(rt, &back, Section::Group)?;
-    show_rows(rt, &back, Section::Transform)?;
-    show_rows(rt, &back, Section::Coset)?;
-    let short = read_card(&bytes[0..end / 2], &mut back);
+    let short = read_card(&bytes[..end / 2], &mut back);
     show_answer(rt, "The first half of the file", short)?;
     encode(rt, &back)
 }
 
-fn encode(rt: &HostRuntime, card: &FinishedCard) -> io::Result<()> {
-    if let Ok(word) = card.encode(11) {
-        print!(rt; "Message 11, encoded from the card that was read: ")?;
-        show_word(rt, word)?;
+fn encode(rt: &HostRuntime, card: &FinishedCard) -> anyhow::Result<()> {
+    print!(rt; "Message 11, encoded from the card that was read: ")?;
+    show_word(rt, card.encode(11).map_err(Error::msg)?)?;
+    if let Err(refusal) = card.encode(16) {
+        show_refusal(rt, "Message 16", refusal)?;
     }
-    match card.encode(16) {
-        Ok(_) => Ok(()),
-        Err(refusal) => show_refusal(rt, "Message 16", refusal),
-    }
+    Ok(())
 }
 
 // Builds the code as a card and shows what is refused on the way.
-pub(crate) fn cards(rt: &HostRuntime, length: WordLength) -> io::Result<FinishedCard> {
+pub(crate) fn cards(rt: &HostRuntime, length: WordLength) -> anyhow::Result<FinishedCard> {
     println!(rt; "\n== A card holds the code ==")?;
     let card = code_e(rt, length)?;
     row_2(rt, length)?;

@@ -1,5 +1,6 @@
 use crate::PLACES;
 use crate::show::{show_list, show_refusal};
+use anyhow::Error;
 use card::states::{FinishedCard, GroupCard};
 use card_finder::{group_finder, plain_finder};
 use code::length::WordLength;
@@ -10,7 +11,7 @@ use finder::Finder;
 use finder::plain::PlainFinder;
 use group_finder::GroupFinder;
 use reading::level::Level;
-use std::io;
+use std::{array, io};
 
 // The words of the Golay code are the multiples of a polynomial with these exponents; its rows are twelve shifts of it.
 const GOLAY: u64 = (1 << 0) | (1 << 1) | (1 << 5) | (1 << 6) | (1 << 7) | (1 << 9) | (1 << 11);
@@ -25,12 +26,7 @@ const WORK: usize = 2048;
 
 // The Golay code as a card: three words without a common place as the group, eight rows, and what is left as coset rows.
 fn golay_card() -> Result<FinishedCard, Refusal> {
-    let mut rows = [0u64; 12];
-    let mut shift = GOLAY;
-    for row in rows.iter_mut() {
-        *row = shift;
-        shift = shift.wrapping_mul(2);
-    }
+    let rows: [u64; 12] = array::from_fn(|shift| GOLAY.wrapping_shl(shift as u32));
     let mut group = GroupCard::new(WordLength::new(GOLAY_PLACES)?);
     for message in GOLAY_GROUP {
         group.add_row(word_of(&rows, message))?;
@@ -48,22 +44,12 @@ fn golay_card() -> Result<FinishedCard, Refusal> {
 
 // A card of 24 places with a row for each place.
 fn full_card() -> Result<FinishedCard, Refusal> {
-    let mut row = 1u64;
     let mut group = GroupCard::new(WordLength::new(24)?);
-    for _ in 0..8 {
-        group.add_row(row)?;
-        row = row.wrapping_mul(2);
-    }
+    (0..8u32).try_for_each(|place| group.add_row(1 << place))?;
     let mut transform = group.close_group();
-    for _ in 0..8 {
-        transform.add_row(row)?;
-        row = row.wrapping_mul(2);
-    }
+    (8..16u32).try_for_each(|place| transform.add_row(1 << place))?;
     let mut coset = transform.close_transform();
-    for _ in 0..8 {
-        coset.add_row(row)?;
-        row = row.wrapping_mul(2);
-    }
+    (16..24u32).try_for_each(|place| coset.add_row(1 << place))?;
     Ok(coset.finish())
 }
 
@@ -77,13 +63,10 @@ fn search<F: Finder>(
 ) -> io::Result<()> {
     let need = finder.need();
     match finder.search(word, work) {
-        Ok(found) => {
-            let message = found.message;
-            let agreement = found.reading;
-            println!(rt;
-                "  {name}: message {message} with agreement {agreement}, in {need} readings of work memory"
-            )
-        }
+        Ok(found) => println!(rt;
+            "  {name}: message {} with agreement {}, in {need} readings of work memory",
+            found.message, found.reading
+        ),
         Err(refusal) => {
             print!(rt; "  {name}: ")?;
             show_refusal(rt, "the word", refusal)
@@ -112,43 +95,35 @@ fn search_all(
 
 // The readings of a word of the Golay code: strong and weak, three of the wrong sign, two lost.
 fn worn(word: u64) -> [Level; 23] {
-    let mut readings = [Level { value: 0 }; GOLAY_PLACES];
-    let mut rest = word;
     let mut strength = 300u32;
-    for (i, reading) in readings.iter_mut().enumerate() {
+    array::from_fn(|place| {
         strength = strength.wrapping_mul(7).wrapping_add(111) % 900;
-        let value = match i {
+        let value = match place {
             2 | 9 | 17 => -90,
             5 | 20 => 0,
             _ => 100 + strength as i32,
         };
-        *reading = Level {
-            value: if rest % 2 == 1 { -value } else { value },
-        };
-        rest /= 2;
-    }
-    readings
+        let is_one = word.wrapping_shr(place as u32) & 1 == 1;
+        Level {
+            value: if is_one { -value } else { value },
+        }
+    })
 }
 
 fn golay(rt: &HostRuntime, work: &mut [Level]) -> anyhow::Result<()> {
     println!(rt; "\n== The Golay code of 23 places and 12 rows ==")?;
-    let card = match golay_card() {
-        Ok(card) => card,
-        Err(refusal) => return Ok(show_refusal(rt, "The code", refusal)?),
-    };
-    if let Ok(word) = card.encode(3026) {
-        println!(rt;
-            "Message 3026 is recorded. Places 2, 9 and 17 read the wrong way, places 5 and 20 dropped out:"
-        )?;
-        let mut readings = worn(word);
-        show_list(rt, &readings)?;
-        search_all(rt, &card, &mut readings, work)?;
-    }
-    Ok(())
+    let card = golay_card().map_err(Error::msg)?;
+    let word = card.encode(3026).map_err(Error::msg)?;
+    println!(rt;
+        "Message 3026 is recorded. Places 2, 9 and 17 read the wrong way, places 5 and 20 dropped out:"
+    )?;
+    let mut readings = worn(word);
+    show_list(rt, &readings)?;
+    Ok(search_all(rt, &card, &mut readings, work)?)
 }
 
 // Words and rows that finders turn down.
-fn refused(rt: &HostRuntime, card: &FinishedCard, work: &mut [Level]) -> io::Result<()> {
+fn refused(rt: &HostRuntime, card: &FinishedCard, work: &mut [Level]) -> anyhow::Result<()> {
     println!(rt; "What the finders turn down:")?;
     let plain = plain_finder(card);
     search(
@@ -175,14 +150,11 @@ fn refused(rt: &HostRuntime, card: &FinishedCard, work: &mut [Level]) -> io::Res
     if let Err(refusal) = layer.add_row(1) {
         show_refusal(rt, "  A fifth row of a layer", refusal)?;
     }
-    let Ok(full) = full_card() else {
-        return Ok(());
-    };
-    let mut pile = CosetLayer::new(plain_finder(&full));
-    match pile.add_row(1) {
-        Ok(()) => Ok(()),
-        Err(refusal) => show_refusal(rt, "  A row above 24", refusal),
+    let full = full_card().map_err(Error::msg)?;
+    if let Err(refusal) = CosetLayer::new(plain_finder(&full)).add_row(1) {
+        show_refusal(rt, "  A row above 24", refusal)?;
     }
+    Ok(())
 }
 
 // Searches with every finder on code E and on the Golay code.
@@ -192,14 +164,7 @@ pub(crate) fn finders(rt: &HostRuntime, card: &FinishedCard) -> anyhow::Result<(
     let word = [620, 910, -480, -130, -770];
     println!(rt; "The strip of message 11 again:")?;
     show_list(rt, &word)?;
-    let [a, b, c, d, e] = word;
-    let mut readings = [
-        Level { value: a },
-        Level { value: b },
-        Level { value: c },
-        Level { value: d },
-        Level { value: e },
-    ];
+    let mut readings = word.map(|value| Level { value });
     search_all(rt, card, &mut readings, &mut work)?;
     refused(rt, card, &mut work)?;
     golay(rt, &mut work)

@@ -5,6 +5,7 @@ mod finders;
 mod show;
 mod stages;
 
+use anyhow::Error;
 use cards::cards;
 use code::length::WordLength;
 use finders::finders;
@@ -18,13 +19,11 @@ const ROWS: [u64; 4] = [3, 6, 12, 17];
 
 fn run(rt: &HostRuntime) -> anyhow::Result<()> {
     println!(rt; "Finding a catalogue number again on a worn strip.")?;
-    show_code(rt)?;
+    let length = WordLength::new(PLACES).map_err(Error::msg)?;
+    show_code(rt, length)?;
     one_head(rt)?;
     two_heads(rt)?;
     refusals(rt)?;
-    let Ok(length) = WordLength::new(PLACES) else {
-        return Ok(());
-    };
     let card = cards(rt, length)?;
     finders(rt, &card)
 }

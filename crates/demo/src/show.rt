@@ -17,15 +17,14 @@ pub(crate) fn show_list<R: Display>(rt: &HostRuntime, list: &[R]) -> io::Result<
 
 // Prints the digits of a word, place 0 first.
 pub(crate) fn show_word(rt: &HostRuntime, word: u64) -> io::Result<()> {
-    for i in 0..PLACES {
-        let digit = (word >> i) % 2;
-        print!(rt; "{digit}")?;
+    for place in 0..PLACES {
+        print!(rt; "{}", word >> place & 1)?;
     }
     println!(rt; "")
 }
 
 // Prints the rows of the code and the column of each place.
-pub(crate) fn show_code(rt: &HostRuntime) -> io::Result<()> {
+pub(crate) fn show_code(rt: &HostRuntime, length: WordLength) -> io::Result<()> {
     println!(rt; "The code has words of {PLACES} places and 4 rows, here with place 0 first:")?;
     for (j, row) in ROWS.iter().enumerate() {
         print!(rt; "  row {j}: ")?;
@@ -35,11 +34,7 @@ pub(crate) fn show_code(rt: &HostRuntime) -> io::Result<()> {
     println!(rt; "Its code word has digit 1 where an odd number of the chosen rows has it.")?;
     println!(rt; "Played at full level, digit 0 reads 1024 and digit 1 reads -1024.")?;
     print!(rt; "The column of a place is the number whose bit j is row j's digit there:")?;
-    let Ok(length) = WordLength::new(PLACES) else {
-        return Ok(());
-    };
-    let columns = columns(&ROWS, length);
-    show_list(rt, &columns[0..PLACES])
+    show_list(rt, &columns(&ROWS, length)[..PLACES])
 }
 
 // Prints a message and its code word.
@@ -50,7 +45,9 @@ pub(crate) fn show_message(rt: &HostRuntime, message: u64) -> io::Result<()> {
 
 // Prints a refusal with its number, its layer and its words.
 pub(crate) fn show_refusal(rt: &HostRuntime, what: &str, refusal: Refusal) -> io::Result<()> {
-    let number = refusal.number();
-    let layer = refusal.layer();
-    println!(rt; "{what} is refused with {number}, of the {layer}: {refusal}.")
+    println!(rt;
+        "{what} is refused with {}, of the {}: {refusal}.",
+        refusal.number(),
+        refusal.layer()
+    )
 }

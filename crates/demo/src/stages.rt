@@ -3,6 +3,7 @@ ghost use Rattle.std.specs.List.{AllByRecursion};
 
 use crate::show::{show_list, show_message, show_refusal};
 use crate::{PLACES, ROWS};
+use anyhow::Error;
 use card::states::GroupCard;
 use code::length::WordLength;
 use code::refusal::Refusal;
@@ -58,19 +59,15 @@ fn show_stages<R: Reading + Display>(
     length: WordLength,
     word: &[R],
     list: &mut [R],
-) -> io::Result<()> {
+) -> anyhow::Result<()> {
     println!(rt; "The worn strip reads, place by place:")?;
     show_list(rt, word)?;
-    if let Err(refusal) = fold(word, length, &columns(&ROWS, length), MESSAGES, list) {
-        return show_refusal(rt, "The word", refusal);
-    }
+    fold(word, length, &columns(&ROWS, length), MESSAGES, list).map_err(Error::msg)?;
     println!(rt; "Folded by column into a list of 16, entry 0 first:")?;
     show_list(rt, list)?;
-    if let Err(refusal) = transform(list) {
-        return show_refusal(rt, "The list", refusal);
-    }
+    transform(list).map_err(Error::msg)?;
     println!(rt; "Transformed: entry m is now the agreement of message m:")?;
-    show_list(rt, list)
+    Ok(show_list(rt, list)?)
 }
 
 // Decodes a word and prints each stage.
@@ -78,34 +75,29 @@ fn decode<R: Reading + Display>(
     rt: &HostRuntime,
     word: &mut [R],
     list: &mut [R],
-) -> io::Result<()> {
-    let plain = match plain_finder() {
-        Ok(plain) => plain,
-        Err(refusal) => return show_refusal(rt, "The code", refusal),
-    };
+) -> anyhow::Result<()> {
+    let plain = plain_finder().map_err(Error::msg)?;
     show_stages(rt, plain.length(), word, list)?;
-    match plain.search(word, list) {
-        Ok(found) => {
-            let message = found.message;
-            let agreement = found.reading;
-            println!(rt;
-                "The first of the largest entries is entry {message}: message {message} is found, with agreement {agreement}."
-            )
-        }
-        Err(refusal) => show_refusal(rt, "The word", refusal),
-    }
+    let found = plain.search(word, list).map_err(Error::msg)?;
+    let message = found.message;
+    println!(rt;
+        "The first of the largest entries is entry {message}: message {message} is found, with agreement {}.",
+        found.reading
+    )?;
+    Ok(())
 }
 
-pub(crate) fn one_head(rt: &HostRuntime) -> io::Result<()> {
+pub(crate) fn one_head(rt: &HostRuntime) -> anyhow::Result<()> {
     println!(rt; "\n== One head: a digit that reads the wrong way ==")?;
     show_message(rt, 11)?;
     let mut word = play::<Level>([620, 910, -480, -130, -770], [0; 5]);
     let mut list = [Level { value: 0 }; MESSAGES];
     decode(rt, &mut word, &mut list)?;
-    println!(rt; "Place 3 was played as 0 and reads as a weak 1; the other places outvote it.")
+    println!(rt; "Place 3 was played as 0 and reads as a weak 1; the other places outvote it.")?;
+    Ok(())
 }
 
-pub(crate) fn two_heads(rt: &HostRuntime) -> io::Result<()> {
+pub(crate) fn two_heads(rt: &HostRuntime) -> anyhow::Result<()> {
     println!(rt; "\n== Two heads: the second head decides between equals ==")?;
     show_message(rt, 12)?;
     println!(rt; "Each reading is a pair: main head, second head.")?;
@@ -118,7 +110,8 @@ pub(crate) fn two_heads(rt: &HostRuntime) -> io::Result<()> {
     decode(rt, &mut alone, &mut levels)?;
     println!(rt;
         "Messages 11 and 12 agree equally well there, and of equals the smallest is taken."
-    )
+    )?;
+    Ok(())
 }
 
 // Lists that the transform turns down.

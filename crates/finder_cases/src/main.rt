@@ -21,20 +21,15 @@ const CARDS: u64 = 500;
 const WORDS: u32 = 4;
 
 fn run(rt: &HostRuntime) -> Result<(), Failure> {
-    let mut levels = vec![in rt.alloc(); Level { value: 0 }; WORK]?;
-    let mut heads = vec![in rt.alloc(); TwoHead { main: 0, second: 0 }; WORK]?;
-    let mut seen = Seen {
-        cards: 0,
-        words: 0,
-        ties: 0,
-        searches: 0,
-        layers: 0,
-        refusals: 0,
-    };
-    for seed in 1..CARDS + 1 {
+    let alloc = rt.alloc();
+    let mut levels = vec![in alloc; Level { value: 0 }; WORK]?;
+    let mut heads = vec![in alloc; TwoHead { main: 0, second: 0 }; WORK]?;
+    let mut seen = Seen::default();
+    for seed in 1..=CARDS {
         let mut random = Random::new(seed);
         let card = random_card(&mut random)?;
         try_card(
+            alloc,
             &card,
             &mut random,
             WORDS,
@@ -43,18 +38,22 @@ fn run(rt: &HostRuntime) -> Result<(), Failure> {
             &mut seen,
         )?;
     }
-    let (cards, words, ties, searches) = (seen.cards, seen.words, seen.ties, seen.searches);
-    let (layers, refusals) = (seen.layers, seen.refusals);
     println!(rt;
-        "{cards} cards, {words} words of both kinds, {ties} of them with several best messages"
+        "{} cards, {} words of both kinds, {} of them with several best messages",
+        seen.cards, seen.words, seen.ties
     )?;
     println!(rt;
-        "{searches} searches by plain and group finder under layers and by one of the two: each the plain search's message and weight"
+        "{} searches by plain and group finder under layers and by one of the two: each the plain search's message and weight",
+        seen.searches
     )?;
     println!(rt;
-        "{layers} searches by the group finder under a layer of rows that may depend: each the plain search's message and weight"
+        "{} searches by the group finder under a layer of rows that may depend: each the plain search's message and weight",
+        seen.layers
     )?;
-    println!(rt; "{refusals} refused searches: each its refusal, nothing changed")?;
+    println!(rt;
+        "{} refused searches: each its refusal, nothing changed",
+        seen.refusals
+    )?;
     Ok(())
 }
 

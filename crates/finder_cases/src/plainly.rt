@@ -1,5 +1,7 @@
 // A plain search over all messages.
+use crate::compare::Weighed;
 use code::words::word_of;
+use std::cmp::Ordering;
 
 // The smallest message of greatest agreement, that agreement, and how many messages have it.
 #[derive(Clone, Copy)]
@@ -9,37 +11,38 @@ pub struct Due {
     pub equals: u32,
 }
 
-// The agreement of a code word with weights.
-fn agreement(word: u64, weights: &[i64]) -> i64 {
+// The agreement of a code word with readings.
+fn agreement<R: Weighed>(word: u64, readings: &[R]) -> i64 {
     let mut sum = 0i64;
-    let mut rest = word;
-    for weight in weights {
-        if rest % 2 == 1 {
-            sum = sum.wrapping_sub(*weight);
+    for (place, reading) in (0..64).zip(readings) {
+        let weight = reading.weighed();
+        sum = if word.wrapping_shr(place) % 2 == 1 {
+            sum.wrapping_sub(weight)
         } else {
-            sum = sum.wrapping_add(*weight);
-        }
-        rest /= 2;
+            sum.wrapping_add(weight)
+        };
     }
     sum
 }
 
-pub(crate) fn search_all(rows: &[u64], weights: &[i64]) -> Due {
+pub(crate) fn search_all<R: Weighed>(rows: &[u64], readings: &[R]) -> Due {
     let mut due = Due {
         message: 0,
-        agreement: agreement(0, weights),
+        agreement: agreement(0, readings),
         equals: 1,
     };
     for message in 1..1u32 << (rows.len() % 32) {
-        let found = agreement(word_of(rows, u64::from(message)), weights);
-        if found > due.agreement {
-            due = Due {
-                message,
-                agreement: found,
-                equals: 1,
-            };
-        } else if found == due.agreement {
-            due.equals = due.equals.wrapping_add(1);
+        let found = agreement(word_of(rows, u64::from(message)), readings);
+        match found.cmp(&due.agreement) {
+            Ordering::Greater => {
+                due = Due {
+                    message,
+                    agreement: found,
+                    equals: 1,
+                };
+            }
+            Ordering::Equal => due.equals = due.equals.wrapping_add(1),
+            Ordering::Less => {}
         }
     }
     due

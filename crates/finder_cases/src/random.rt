@@ -1,4 +1,6 @@
 // Pseudo-random numbers, cards and words.
+ghost use Rattle.std.specs.Prelude.{◌<◌};
+
 use card::states::{FinishedCard, GroupCard};
 use code::length::WordLength;
 use code::refusal::Refusal;
@@ -6,36 +8,8 @@ use code::refusal::Refusal;
 // The most rows of a card here, so that a plain search over all messages stays short.
 pub(crate) const MOST_ROWS: usize = 12;
 
-// A list of at most so many rows.
-#[derive(Clone, Copy)]
-pub struct Rows {
-    rows: [u64; MOST_ROWS],
-    count: usize,
-}
-
-impl Rows {
-    pub(crate) fn new() -> Rows {
-        Rows {
-            rows: [0; MOST_ROWS],
-            count: 0,
-        }
-    }
-
-    pub(crate) fn has_room(&self) -> bool {
-        self.count < MOST_ROWS
-    }
-
-    pub(crate) fn push(&mut self, row: u64) {
-        if self.count < MOST_ROWS {
-            self.rows[self.count] = row;
-            self.count += 1;
-        }
-    }
-
-    pub(crate) fn all(&self) -> &[u64] {
-        &self.rows[0..self.count.min(MOST_ROWS)]
-    }
-}
+// The most rows of a section.
+const SECTION_ROWS: usize = 8;
 
 // A sequence of pseudo-random numbers.
 #[derive(Clone, Copy)]
@@ -57,13 +31,12 @@ impl Random {
         self.state >> 11
     }
 
-    // A number below the limit, or 0 where the limit is 0.
-    pub(crate) fn below(&mut self, limit: usize) -> usize {
-        let number = self.next() % 65536;
-        match number.checked_rem(limit as u64) {
-            Some(rest) => rest as usize,
-            None => 0,
-        }
+    // A number below the limit.
+    pub(crate) fn below(&mut self, limit: usize) -> usize
+        requires { 0 < limit }
+        ensures { result < limit }
+    {
+        (self.next() % 65536) as usize % limit
     }
 
     // A row of so many places.
@@ -71,46 +44,66 @@ impl Random {
         let high = self.next() << 32;
         (self.next() ^ high) >> (64usize.wrapping_sub(places) % 64)
     }
+
+    // A whole number from -2 to 2.
+    pub(crate) fn small(&mut self) -> i32 {
+        self.below(5) as i32 - 2
+    }
 }
 
-// So many group rows, which concur: each place has digit 1 in none of them, in one, or in all.
-fn group_rows(random: &mut Random, places: usize, count: usize) -> [u64; 8] {
-    let mut rows = [0u64; 8];
-    for place in 0..places {
-        let class = random.below(count.wrapping_add(2));
-        for (j, row) in rows.iter_mut().enumerate() {
-            if j < count && (class == j || class == count) {
-                *row |= 1u64 << (place % 64);
-            }
+// Sets a digit in the row of that number, or in all rows for the number beyond the last.
+fn set_digit(rows: &mut [u64], class: usize, digit: u64) {
+    let all = class == rows.len();
+    for (j, row) in rows.iter_mut().enumerate() {
+        if all || j == class {
+            *row |= digit;
         }
     }
-    rows
+}
+
+// Group rows, which concur: each place has digit 1 in none of them, in one, or in all.
+fn draw_group(random: &mut Random, places: usize, rows: &mut [u64]) {
+    for place in 0..places {
+        let class = random.below(rows.len().saturating_add(2));
+        set_digit(rows, class, 1u64 << (place % 64));
+    }
+}
+
+// Draws each row.
+fn draw_rows(random: &mut Random, places: usize, rows: &mut [u64]) {
+    for row in rows.iter_mut() {
+        *row = random.row(places);
+    }
+}
+
+// Offers rows to a section while there is room, and answers how much room is left; rows that are refused are left out.
+fn offer<A: FnMut(u64) -> Result<(), Refusal>>(rows: &[u64], room: usize, mut add_row: A) -> usize
+    requires { A.IsAlwaysCallable add_row }
+{
+    let mut left = room;
+    for row in rows {
+        if left > 0 && add_row(*row).is_ok() {
+            left -= 1;
+        }
+    }
+    left
 }
 
 // A card of a random length with rows in all sections; rows that are refused are left out.
 pub(crate) fn random_card(random: &mut Random) -> Result<FinishedCard, Refusal> {
-    let places = random.below(64).wrapping_add(1);
-    let mut left = MOST_ROWS;
+    let places = random.below(64) + 1;
+    let mut rows = [0; SECTION_ROWS];
     let mut group = GroupCard::new(WordLength::new(places)?);
-    let count = random.below(9);
-    for row in group_rows(random, places, count) {
-        if left > 0 && group.add_row(row).is_ok() {
-            left -= 1;
-        }
-    }
+    let count = random.below(SECTION_ROWS + 1);
+    draw_group(random, places, &mut rows[..count]);
+    let room = offer(&rows[..count], MOST_ROWS, |row| group.add_row(row));
     let mut transform = group.close_group();
-    for _ in 0..random.below(9) {
-        let row = random.row(places);
-        if left > 0 && transform.add_row(row).is_ok() {
-            left -= 1;
-        }
-    }
+    let count = random.below(SECTION_ROWS + 1);
+    draw_rows(random, places, &mut rows[..count]);
+    let room = offer(&rows[..count], room, |row| transform.add_row(row));
     let mut coset = transform.close_transform();
-    for _ in 0..random.below(9) {
-        let row = random.row(places);
-        if left > 0 && coset.add_row(row).is_ok() {
-            left -= 1;
-        }
-    }
+    let count = random.below(SECTION_ROWS + 1);
+    draw_rows(random, places, &mut rows[..count]);
+    offer(&rows[..count], room, |row| coset.add_row(row));
     Ok(coset.finish())
 }
