@@ -2,8 +2,7 @@
 use Rattle.std.specs.Prelude.{◌≡◌, ℕ, zero, suc, List, Ok, Err, Result}
 use Rattle.code.specs.declared.refusal.Refusal.{Refusal}
 use Rattle.code.specs.Refusals.{number_of}
-use Rattle.reading.specs.declared.level.Level.{Level}
-use Rattle.reading.specs.Kinds.{level_weight, level_size}
+use Rattle.reading.specs.declared.Reading.{Ghosts as Kind}
 use Rattle.hadamard.specs.Transform.{Transformed}
 
 -- 0 where a call was answered, else the refusal's number
@@ -12,6 +11,6 @@ numbered (Ok u) = 0
 numbered (Err e) = number_of e
 
 -- a list that was transformed, or, refused, is as before
-abbrev pub Left : ℕ → List Level → List Level → Type 0
-Left zero old new = Transformed level_weight level_size old new
-Left (suc n) old new = new ≡ old
+abbrev pub Left : {R : Type 0} → Kind R → ℕ → List R → List R → Type 0
+Left kind zero old new = Transformed kind old new
+Left kind (suc n) old new = new ≡ old
