@@ -1,21 +1,18 @@
 use crate::ROWS;
-use crate::show::{show_list, show_refusal, show_word};
-use anyhow::{Context, Error};
+use crate::show::Digits;
 use card::states::{FinishedCard, GroupCard};
 use card_file::read::read_card;
 use card_file::write::write_card;
 use code::length::WordLength;
 use code::refusal::{Refusal, Section};
+use code::spaced::Spaced;
 use std::io;
 
 // Prints what a row was told.
 fn show_answer(rt: &HostRuntime, what: &str, answer: Result<(), Refusal>) -> io::Result<()> {
     match answer {
         Ok(()) => println!(rt; "  {what}: taken"),
-        Err(refusal) => {
-            print!(rt; "  ")?;
-            show_refusal(rt, what, refusal)
-        }
+        Err(refusal) => println!(rt; "  {what} is {refusal:#}."),
     }
 }
 
@@ -46,8 +43,8 @@ fn code_e(rt: &HostRuntime, length: WordLength) -> io::Result<FinishedCard> {
 fn row_2(rt: &HostRuntime, length: WordLength) -> anyhow::Result<()> {
     println!(rt; "On another card with the group rows 3 and 6:")?;
     let mut group = GroupCard::new(length);
-    group.add_row(ROWS[0]).map_err(Error::msg)?;
-    group.add_row(ROWS[1]).map_err(Error::msg)?;
+    group.add_row(ROWS[0])?;
+    group.add_row(ROWS[1])?;
     let what = "Group row 2 (whose one digit all three have)";
     Ok(show_answer(rt, what, group.add_row(2))?)
 }
@@ -55,9 +52,9 @@ fn row_2(rt: &HostRuntime, length: WordLength) -> anyhow::Result<()> {
 // A row too many.
 fn ninth_row(rt: &HostRuntime) -> anyhow::Result<()> {
     println!(rt; "On a card of 9 places with eight group rows of one digit each:")?;
-    let mut full = GroupCard::new(WordLength::new(9).map_err(Error::msg)?);
+    let mut full = GroupCard::new(WordLength::new(9)?);
     for place in 0..8u32 {
-        full.add_row(1 << place).map_err(Error::msg)?;
+        full.add_row(1 << place)?;
     }
     Ok(show_answer(rt, "A ninth row", full.add_row(1 << 8))?)
 }
@@ -65,19 +62,18 @@ fn ninth_row(rt: &HostRuntime) -> anyhow::Result<()> {
 // Writes a card file, reads it back and encodes from the card that was read.
 fn file(rt: &HostRuntime, card: &FinishedCard) -> anyhow::Result<()> {
     let mut bytes = [0; 64];
-    let end = write_card(card, &mut bytes).map_err(Error::msg)?;
-    let bytes = bytes.get(..end).context("the file of the card")?;
+    let end = write_card(card, &mut bytes)?;
+    let bytes = &bytes[..end];
     println!(rt; "As a card file it has {end} bytes:")?;
-    show_list(rt, bytes)?;
+    println!(rt; " {}", Spaced(bytes))?;
     let mut back = FinishedCard::new();
-    read_card(bytes, &mut back).map_err(Error::msg)?;
+    read_card(bytes, &mut back)?;
     println!(rt;
         "Read back, the card has words of {} places and",
         back.word_length().places()
     )?;
     for section in [Section::Group, Section::Transform, Section::Coset] {
-        print!(rt; "  {section} rows:")?;
-        show_list(rt, back.section_rows(section))?;
+        println!(rt; "  {section} rows: {}", Spaced(back.section_rows(section)))?;
     }
     let short = read_card(&bytes[..end / 2], &mut back);
     show_answer(rt, "The first half of the file", short)?;
@@ -85,10 +81,12 @@ fn file(rt: &HostRuntime, card: &FinishedCard) -> anyhow::Result<()> {
 }
 
 fn encode(rt: &HostRuntime, card: &FinishedCard) -> anyhow::Result<()> {
-    print!(rt; "Message 11, encoded from the card that was read: ")?;
-    show_word(rt, card.encode(11).map_err(Error::msg)?)?;
+    println!(rt;
+        "Message 11, encoded from the card that was read: {}",
+        Digits(card.encode(11)?)
+    )?;
     if let Err(refusal) = card.encode(16) {
-        show_refusal(rt, "Message 16", refusal)?;
+        println!(rt; "Message 16 is {refusal:#}.")?;
     }
     Ok(())
 }

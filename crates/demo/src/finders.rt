@@ -1,10 +1,9 @@
 use crate::PLACES;
-use crate::show::{show_list, show_refusal};
-use anyhow::Error;
 use card::states::{FinishedCard, GroupCard};
-use card_finder::{group_finder, plain_finder};
+use card_finder::card_finder;
 use code::length::WordLength;
 use code::refusal::Refusal;
+use code::spaced::Spaced;
 use code::words::word_of;
 use coset_layer::CosetLayer;
 use finder::Finder;
@@ -67,10 +66,7 @@ fn search<F: Finder>(
             "  {name}: message {} with agreement {}, in {need} readings of work memory",
             found.message, found.reading
         ),
-        Err(refusal) => {
-            print!(rt; "  {name}: ")?;
-            show_refusal(rt, "the word", refusal)
-        }
+        Err(refusal) => println!(rt; "  {name}: the word is {refusal:#}."),
     }
 }
 
@@ -81,8 +77,8 @@ fn search_all(
     word: &mut [Level],
     work: &mut [Level],
 ) -> io::Result<()> {
-    let plain = plain_finder(card);
-    let group = group_finder(card);
+    let plain = card_finder::<PlainFinder>(card);
+    let group = card_finder::<GroupFinder>(card);
     let rows = group.row_count();
     println!(rt; "Searched over the {rows} rows of the card:")?;
     search(rt, "plain finder under coset layers", &plain, word, work)?;
@@ -112,20 +108,20 @@ fn worn(word: u64) -> [Level; 23] {
 
 fn golay(rt: &HostRuntime, work: &mut [Level]) -> anyhow::Result<()> {
     println!(rt; "\n== The Golay code of 23 places and 12 rows ==")?;
-    let card = golay_card().map_err(Error::msg)?;
-    let word = card.encode(3026).map_err(Error::msg)?;
+    let card = golay_card()?;
+    let word = card.encode(3026)?;
     println!(rt;
         "Message 3026 is recorded. Places 2, 9 and 17 read the wrong way, places 5 and 20 dropped out:"
     )?;
     let mut readings = worn(word);
-    show_list(rt, &readings)?;
+    println!(rt; " {}", Spaced(&readings))?;
     Ok(search_all(rt, &card, &mut readings, work)?)
 }
 
 // Words and rows that finders turn down.
 fn refused(rt: &HostRuntime, card: &FinishedCard, work: &mut [Level]) -> anyhow::Result<()> {
     println!(rt; "What the finders turn down:")?;
-    let plain = plain_finder(card);
+    let plain = card_finder::<PlainFinder>(card);
     search(
         rt,
         "four readings",
@@ -145,14 +141,14 @@ fn refused(rt: &HostRuntime, card: &FinishedCard, work: &mut [Level]) -> anyhow:
     )?;
     let mut layer = CosetLayer::new(PlainFinder::new(card));
     for _ in 0..4 {
-        let _ = layer.add_row(1);
+        layer.add_row(1)?;
     }
     if let Err(refusal) = layer.add_row(1) {
-        show_refusal(rt, "  A fifth row of a layer", refusal)?;
+        println!(rt; "  A fifth row of a layer is {refusal:#}.")?;
     }
-    let full = full_card().map_err(Error::msg)?;
-    if let Err(refusal) = CosetLayer::new(plain_finder(&full)).add_row(1) {
-        show_refusal(rt, "  A row above 24", refusal)?;
+    let full = full_card()?;
+    if let Err(refusal) = CosetLayer::new(card_finder::<PlainFinder>(&full)).add_row(1) {
+        println!(rt; "  A row above 24 is {refusal:#}.")?;
     }
     Ok(())
 }
@@ -163,7 +159,7 @@ pub(crate) fn finders(rt: &HostRuntime, card: &FinishedCard) -> anyhow::Result<(
     println!(rt; "\n== Three finders on code E ==")?;
     let word = [620, 910, -480, -130, -770];
     println!(rt; "The strip of message 11 again:")?;
-    show_list(rt, &word)?;
+    println!(rt; " {}", Spaced(&word))?;
     let mut readings = word.map(|value| Level { value });
     search_all(rt, card, &mut readings, &mut work)?;
     refused(rt, card, &mut work)?;

@@ -5,7 +5,6 @@ mod finders;
 mod show;
 mod stages;
 
-use anyhow::Error;
 use cards::cards;
 use code::length::WordLength;
 use finders::finders;
@@ -19,7 +18,7 @@ const ROWS: [u64; 4] = [3, 6, 12, 17];
 
 fn run(rt: &HostRuntime) -> anyhow::Result<()> {
     println!(rt; "Finding a catalogue number again on a worn strip.")?;
-    let length = WordLength::new(PLACES).map_err(Error::msg)?;
+    let length = WordLength::new(PLACES)?;
     show_code(rt, length)?;
     one_head(rt)?;
     two_heads(rt)?;

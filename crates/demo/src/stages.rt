@@ -1,12 +1,12 @@
 ghost use Rattle.std.specs.Prelude.{◌^◌, ◌≤◌};
 ghost use Rattle.std.specs.List.{AllByRecursion};
 
-use crate::show::{show_list, show_message, show_refusal};
+use crate::show::show_message;
 use crate::{PLACES, ROWS};
-use anyhow::Error;
 use card::states::GroupCard;
 use code::length::WordLength;
 use code::refusal::Refusal;
+use code::spaced::Spaced;
 use finder::Finder;
 use finder::fold::{columns, fold};
 use finder::plain::PlainFinder;
@@ -44,13 +44,11 @@ fn read<R: Reading>(main: i32, second: i32) -> R
     )
 }
 
-// Five readings of the main head and the second.
-fn play<R: Reading>(main: [i32; 5], second: [i32; 5]) -> [R; 5]
+// Readings of the main head's labels and the second's.
+fn play<R: Reading>(labels: [(i32, i32); 5]) -> [R; 5]
     ensures { AllByRecursion (λ x. R.Reading.size x ≤ 2 ^ 10) result }
 {
-    let [a, b, c, d, e] = main;
-    let [p, q, r, s, t] = second;
-    [read(a, p), read(b, q), read(c, r), read(d, s), read(e, t)]
+    labels.map(|(main, second)| read(main, second))
 }
 
 // Prints the word, the list that it folds into and the transform of that list.
@@ -61,13 +59,14 @@ fn show_stages<R: Reading + Display>(
     list: &mut [R],
 ) -> anyhow::Result<()> {
     println!(rt; "The worn strip reads, place by place:")?;
-    show_list(rt, word)?;
-    fold(word, length, &columns(&ROWS, length), MESSAGES, list).map_err(Error::msg)?;
+    println!(rt; " {}", Spaced(word))?;
+    fold(word, length, &columns(&ROWS, length), MESSAGES, list)?;
     println!(rt; "Folded by column into a list of 16, entry 0 first:")?;
-    show_list(rt, list)?;
-    transform(list).map_err(Error::msg)?;
+    println!(rt; " {}", Spaced(list))?;
+    transform(list)?;
     println!(rt; "Transformed: entry m is now the agreement of message m:")?;
-    Ok(show_list(rt, list)?)
+    println!(rt; " {}", Spaced(list))?;
+    Ok(())
 }
 
 // Decodes a word and prints each stage.
@@ -76,9 +75,9 @@ fn decode<R: Reading + Display>(
     word: &mut [R],
     list: &mut [R],
 ) -> anyhow::Result<()> {
-    let plain = plain_finder().map_err(Error::msg)?;
+    let plain = plain_finder()?;
     show_stages(rt, plain.length(), word, list)?;
-    let found = plain.search(word, list).map_err(Error::msg)?;
+    let found = plain.search(word, list)?;
     let message = found.message;
     println!(rt;
         "The first of the largest entries is entry {message}: message {message} is found, with agreement {}.",
@@ -90,7 +89,7 @@ fn decode<R: Reading + Display>(
 pub(crate) fn one_head(rt: &HostRuntime) -> anyhow::Result<()> {
     println!(rt; "\n== One head: a digit that reads the wrong way ==")?;
     show_message(rt, 11)?;
-    let mut word = play::<Level>([620, 910, -480, -130, -770], [0; 5]);
+    let mut word = play::<Level>([620, 910, -480, -130, -770].map(|main| (main, 0)));
     let mut list = [Level { value: 0 }; MESSAGES];
     decode(rt, &mut word, &mut list)?;
     println!(rt; "Place 3 was played as 0 and reads as a weak 1; the other places outvote it.")?;
@@ -101,11 +100,11 @@ pub(crate) fn two_heads(rt: &HostRuntime) -> anyhow::Result<()> {
     println!(rt; "\n== Two heads: the second head decides between equals ==")?;
     show_message(rt, 12)?;
     println!(rt; "Each reading is a pair: main head, second head.")?;
-    let mut word = play::<TwoHead>([130, 910, -480, -130, -770], [-40, 0, 0, 0, 0]);
+    let mut word = play::<TwoHead>([(130, -40), (910, 0), (-480, 0), (-130, 0), (-770, 0)]);
     let mut list = [TwoHead { main: 0, second: 0 }; MESSAGES];
     decode(rt, &mut word, &mut list)?;
     println!(rt; "The same strip with the main head alone:")?;
-    let mut alone = play::<Level>([130, 910, -480, -130, -770], [0; 5]);
+    let mut alone = play::<Level>([130, 910, -480, -130, -770].map(|main| (main, 0)));
     let mut levels = [Level { value: 0 }; MESSAGES];
     decode(rt, &mut alone, &mut levels)?;
     println!(rt;
@@ -119,12 +118,12 @@ pub(crate) fn refusals(rt: &HostRuntime) -> io::Result<()> {
     println!(rt; "\n== What is turned down changes nothing ==")?;
     let mut list = [Level { value: 7 }; 3];
     if let Err(refusal) = transform(&mut list) {
-        show_refusal(rt, "A list of three", refusal)?;
+        println!(rt; "A list of three is {refusal:#}.")?;
     }
     let mut large = [Level { value: 268435456 }, Level { value: -1 }];
     if let Err(refusal) = transform(&mut large) {
-        show_refusal(rt, "A list of 268435456 and -1", refusal)?;
+        println!(rt; "A list of 268435456 and -1 is {refusal:#}.")?;
     }
-    show_list(rt, &list)?;
-    show_list(rt, &large)
+    println!(rt; " {}", Spaced(&list))?;
+    println!(rt; " {}", Spaced(&large))
 }
