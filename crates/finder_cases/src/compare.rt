@@ -1,6 +1,6 @@
 // Each finder beside the plain search.
-use crate::failure::{Failure, expect};
 use crate::plainly::Due;
+use anyhow::{Result, ensure};
 use code::refusal::Refusal;
 use finder::Finder;
 use finder::found::Found;
@@ -8,6 +8,9 @@ use reading::Reading;
 use reading::level::Level;
 use reading::two_head::TwoHead;
 use std::alloc::Global;
+
+// The readings of work memory of a search: as many as a card of 12 rows can need.
+pub(crate) const WORK: usize = 4100;
 
 // A kind of reading whose small weights fit 64 bits, and that can be compared in every field.
 pub trait Weighed: Reading + PartialEq {
@@ -35,21 +38,18 @@ impl Weighed for TwoHead {
     }
 }
 
-// Searches a word in marked work memory; the word is the same afterwards.
+// Searches a word in marked work memory of so many readings, and gives that memory too; the word is the same afterwards.
 fn search_marked<R: Weighed, F: Finder>(
     alloc: Global,
     finder: &F,
     word: &[R],
-    work: &mut [R],
-) -> Result<Result<Found<R>, Refusal>, Failure> {
-    // A loop, since `fill` asks that the `clone` of a reading cannot fail, which no law of `Reading` says.
-    for x in work.iter_mut() {
-        *x = R::MARK;
-    }
+    room: usize,
+) -> Result<(Result<Found<R>, Refusal>, Vec<R>)> {
+    let mut work = vec![in alloc; R::MARK; room]?;
     let mut lent = word.to_vec(alloc)?;
-    let answer = finder.search(lent.as_mut_slice(), work);
-    expect(lent.as_slice() == word)?;
-    Ok(answer)
+    let answer = finder.search(&mut lent, &mut work);
+    ensure!(lent.as_slice() == word);
+    Ok((answer, work))
 }
 
 // A search that answers what is due, and leaves the word and the memory beyond the need as they were.
@@ -57,30 +57,33 @@ pub(crate) fn finds<R: Weighed, F: Finder>(
     alloc: Global,
     finder: &F,
     word: &[R],
-    work: &mut [R],
     due: Due,
-) -> Result<(), Failure> {
-    let found = search_marked(alloc, finder, word, work)??;
-    expect(found.message == due.message)?;
-    expect(found.reading.weighed() == due.agreement)?;
-    expect(work.iter().skip(finder.need()).all(|x| *x == R::MARK))
+) -> Result<()> {
+    let (answer, work) = search_marked(alloc, finder, word, WORK)?;
+    let found = answer?;
+    ensure!(found.message == due.message);
+    ensure!(found.reading.weighed() == due.agreement);
+    ensure!(work.iter().skip(finder.need()).all(|x| *x == R::MARK));
+    Ok(())
 }
 
-// A search that is refused so, and changes nothing.
+// A search in so much work memory that is refused so, and changes nothing.
 pub(crate) fn refuses<R: Weighed, F: Finder>(
     alloc: Global,
     finder: &F,
     word: &[R],
-    work: &mut [R],
+    room: usize,
     due: Refusal,
-) -> Result<(), Failure> {
-    let answer = search_marked(alloc, finder, word, work)?;
-    expect(answer.err() == Some(due))?;
-    expect(work.iter().all(|x| *x == R::MARK))
+) -> Result<()> {
+    let (answer, work) = search_marked(alloc, finder, word, room)?;
+    ensure!(answer.err() == Some(due));
+    ensure!(work.iter().all(|x| *x == R::MARK));
+    Ok(())
 }
 
 // The rows that a finder tells are those of the card, and there is none beyond the last.
-pub(crate) fn tells<F: Finder>(finder: &F, rows: &[u64]) -> Result<(), Failure> {
-    expect(finder.row_count() == rows.len())?;
-    expect((0..=rows.len()).all(|j| finder.row(j) == rows.get(j).copied()))
+pub(crate) fn tells<F: Finder>(finder: &F, rows: &[u64]) -> Result<()> {
+    ensure!(finder.row_count() == rows.len());
+    ensure!((0..=rows.len()).all(|j| finder.row(j) == rows.get(j).copied()));
+    Ok(())
 }

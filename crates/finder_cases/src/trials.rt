@@ -1,18 +1,20 @@
 // One card: its finders, words and refusals.
-use crate::compare::{Weighed, finds, refuses, tells};
-use crate::failure::Failure;
-use crate::plainly::search_all;
+use crate::compare::{WORK, Weighed, finds, refuses, tells};
+use crate::plainly::{Due, search_all};
 use crate::random::{MOST_ROWS, Random};
+use anyhow::Result;
 use card::states::FinishedCard;
-use card_finder::{group_finder, plain_finder};
+use card_finder::card_finder;
 use code::refusal::{Refusal, Section};
 use coset_layer::CosetLayer;
 use finder::Finder;
 use finder::either::Either;
+use finder::of_card::OfCard;
+use finder::plain::PlainFinder;
 use group_finder::GroupFinder;
 use reading::level::Level;
 use reading::two_head::TwoHead;
-use std::alloc::{AllocError, Global};
+use std::alloc::Global;
 use std::array;
 
 // What was gone through.
@@ -26,27 +28,34 @@ pub struct Seen {
     pub refusals: u32,
 }
 
+// A word searched with the finder F under the coset layers of the card.
+fn try_finder<F: OfCard + Drop, R: Weighed>(
+    alloc: Global,
+    card: &FinishedCard,
+    word: &[R],
+    due: Due,
+) -> Result<()> {
+    let finder = card_finder::<F>(card);
+    tells(&finder, card.rows())?;
+    finds(alloc, &finder, word, due)
+}
+
 // A word searched with the plain finder, the group finder and one of the two, each under the coset layers of the card.
 fn try_word<R: Weighed>(
     alloc: Global,
     card: &FinishedCard,
     word: &[R],
-    work: &mut [R],
     seen: &mut Seen,
-) -> Result<(), Failure> {
+) -> Result<()> {
     let due = search_all(card.rows(), word);
-    let plain = plain_finder(card);
-    let group = group_finder(card);
-    tells(&plain, card.rows())?;
-    tells(&group, card.rows())?;
-    finds(alloc, &plain, word, work, due)?;
-    finds(alloc, &group, word, work, due)?;
+    try_finder::<PlainFinder, R>(alloc, card, word, due)?;
+    try_finder::<GroupFinder, R>(alloc, card, word, due)?;
     let either = if due.message % 2 == 0 {
-        Either::First(plain)
+        Either::First(card_finder::<PlainFinder>(card))
     } else {
-        Either::Second(group)
+        Either::Second(card_finder::<GroupFinder>(card))
     };
-    finds(alloc, &either, word, work, due)?;
+    finds(alloc, &either, word, due)?;
     seen.words = seen.words.wrapping_add(1);
     seen.searches = seen.searches.wrapping_add(3);
     if due.equals > 1 {
@@ -61,9 +70,8 @@ fn try_layer(
     card: &FinishedCard,
     random: &mut Random,
     word: &[Level],
-    work: &mut [Level],
     seen: &mut Seen,
-) -> Result<(), Failure> {
+) -> Result<()> {
     let mut rows = card.section_rows(Section::Group).to_vec(alloc)?;
     rows.extend_from_slice(card.section_rows(Section::Transform))?;
     let mut layer = CosetLayer::new(GroupFinder::new(card));
@@ -75,44 +83,35 @@ fn try_layer(
             drawn
         };
         if rows.len() < MOST_ROWS && layer.add_row(row).is_ok() {
-            rows.push(row).map_err(AllocError::from)?;
+            rows.push(row)?;
         }
     }
-    let due = search_all(rows.as_slice(), word);
-    tells(&layer, rows.as_slice())?;
-    finds(alloc, &layer, word, work, due)?;
+    let due = search_all(&rows, word);
+    tells(&layer, &rows)?;
+    finds(alloc, &layer, word, due)?;
     seen.layers = seen.layers.wrapping_add(1);
     Ok(())
 }
 
-// A word of another length, a reading too large, and work memory one below the need.
+// A word of another length, work memory one below the need, and a reading too large.
 fn try_refusals(
     alloc: Global,
     card: &FinishedCard,
     random: &mut Random,
     word: &[Level],
-    work: &mut [Level],
     seen: &mut Seen,
-) -> Result<(), Failure> {
-    let group = group_finder(card);
+) -> Result<()> {
+    let group = card_finder::<GroupFinder>(card);
     let half = &word[..word.len() / 2];
-    refuses(alloc, &group, half, work, Refusal::WordLengthDiffers)?;
-    let need = group.need();
-    if need > 0 && need <= work.len() {
-        let short = &mut work[..need - 1];
+    refuses(alloc, &group, half, WORK, Refusal::WordLengthDiffers)?;
+    if let Some(short) = group.need().checked_sub(1) {
         refuses(alloc, &group, word, short, Refusal::WorkMemoryShort)?;
     }
     let place = random.below(card.word_length().places());
     let mut loud = word.to_vec(alloc)?;
     if let Some(reading) = loud.get_mut(place) {
         *reading = Level { value: 1048577 };
-        refuses(
-            alloc,
-            &group,
-            loud.as_slice(),
-            work,
-            Refusal::SizeTooLarge { place },
-        )?;
+        refuses(alloc, &group, &loud, WORK, Refusal::SizeTooLarge { place })?;
     }
     seen.refusals = seen.refusals.wrapping_add(3);
     Ok(())
@@ -124,21 +123,19 @@ pub(crate) fn try_card(
     card: &FinishedCard,
     random: &mut Random,
     words: u32,
-    levels: &mut [Level],
-    heads: &mut [TwoHead],
     seen: &mut Seen,
-) -> Result<(), Failure> {
+) -> Result<()> {
     let places = card.word_length().places();
     seen.cards = seen.cards.wrapping_add(1);
     for _ in 0..words {
         let word = level_word(random);
-        try_word(alloc, card, &word[..places], levels, seen)?;
+        try_word(alloc, card, &word[..places], seen)?;
         let word = two_head_word(random);
-        try_word(alloc, card, &word[..places], heads, seen)?;
+        try_word(alloc, card, &word[..places], seen)?;
     }
     let word = level_word(random);
-    try_layer(alloc, card, random, &word[..places], levels, seen)?;
-    try_refusals(alloc, card, random, &word[..places], levels, seen)
+    try_layer(alloc, card, random, &word[..places], seen)?;
+    try_refusals(alloc, card, random, &word[..places], seen)
 }
 
 fn level_word(random: &mut Random) -> [Level; 64] {
