@@ -1,19 +1,22 @@
 #![tactic(auto)]
 
+mod lists;
 mod sheets;
-mod show;
 
+use anyhow::Result;
 use card::states::{FinishedCard, GroupCard};
 use code::length::WordLength;
 use code::refusal::Refusal;
-use sheets::sheets;
-use show::show_refusal;
-use std::io;
+use lists::run_lists;
+use sheets::play_strip;
 
 // The code: words of five places, and four rows whose bit i is the digit at place i.
 const PLACES: usize = 5;
 
 const ROWS: [u64; 4] = [3, 6, 12, 17];
+
+// Readings of work memory, enough for both finders of the code.
+const WORK: usize = 8;
 
 // The code as a card: rows 0 and 1 are group rows, row 2 is a transform row, row 3 a coset row.
 fn code_e() -> Result<FinishedCard, Refusal> {
@@ -27,13 +30,16 @@ fn code_e() -> Result<FinishedCard, Refusal> {
     Ok(coset.finish())
 }
 
-fn run(rt: &HostRuntime) -> io::Result<()> {
-    match code_e() {
-        Ok(card) => sheets(rt, &card),
-        Err(refusal) => show_refusal(rt, "The code", refusal),
-    }
+// Plays a strip on a sheet, and runs a card and a sheet by lists of requests.
+fn run(rt: &HostRuntime) -> Result<()> {
+    let card = code_e()?;
+    println!(rt; "\n== A worn strip played three times ==")?;
+    println!(rt; "Message 11 was recorded, with the code word 00101:")?;
+    play_strip(rt, &card)?;
+    println!(rt; "\n== Lists of requests to a card and its sheet ==")?;
+    run_lists(rt, card.word_length())
 }
 
-fn main(rt: HostRuntime) -> io::Result<()> {
+fn main(rt: HostRuntime) -> Result<()> {
     run(&rt)
 }
