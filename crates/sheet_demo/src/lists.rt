@@ -58,30 +58,36 @@ const SHEET_REQUESTS: [(&'static str, Request<'static, Method>); 9] = [
     ("A search by the plain finder", PLAIN_SEARCH),
 ];
 
-// Prints what a request to a card was answered.
-fn show_told(rt: &HostRuntime, what: &str, answer: CardAnswer) -> io::Result<()> {
-    match answer {
-        CardAnswer::Taken => println!(rt; "  {what}: taken"),
-        CardAnswer::Moved => println!(rt; "  {what}: moved on"),
-        CardAnswer::Closed => println!(rt; "  {what}: the card is finished and takes no more"),
-        CardAnswer::Refused { refusal } => println!(rt; "  {what} is {refusal:#}."),
+// Prints what each request to the card was answered.
+fn show_told(rt: &HostRuntime, told: [CardAnswer; 9]) -> io::Result<()> {
+    for ((what, _), answer) in ROW_REQUESTS.iter().zip(told) {
+        match answer {
+            CardAnswer::Taken => println!(rt; "  {what}: taken")?,
+            CardAnswer::Moved => println!(rt; "  {what}: moved on")?,
+            CardAnswer::Closed => println!(rt; "  {what}: the card is finished and takes no more")?,
+            CardAnswer::Refused { refusal } => println!(rt; "  {what} is {refusal:#}.")?,
+        }
     }
+    Ok(())
 }
 
-// Prints what a request to a sheet was answered.
-fn show_answer(rt: &HostRuntime, what: &str, answer: Answer<Level>) -> io::Result<()> {
-    match answer {
-        Answer::Passed(Ok(count)) => println!(rt; "  {what}: taken as pass {count}"),
-        Answer::Struck(Ok(())) => println!(rt; "  {what}: struck"),
-        Answer::Cleared => println!(rt; "  {what}: laid out anew"),
-        Answer::Searched(Ok(found)) => println!(rt;
-            "  {what}: message {} with agreement {}",
-            found.message, found.reading
-        ),
-        Answer::Passed(Err(refusal))
-        | Answer::Struck(Err(refusal))
-        | Answer::Searched(Err(refusal)) => println!(rt; "  {what} is {refusal:#}."),
+// Prints what each request to the sheet was answered.
+fn show_answers(rt: &HostRuntime, answers: [Answer<Level>; 9]) -> io::Result<()> {
+    for ((what, _), answer) in SHEET_REQUESTS.iter().zip(answers) {
+        match answer {
+            Answer::Passed(Ok(count)) => println!(rt; "  {what}: taken as pass {count}")?,
+            Answer::Struck(Ok(())) => println!(rt; "  {what}: struck")?,
+            Answer::Cleared => println!(rt; "  {what}: laid out anew")?,
+            Answer::Searched(Ok(found)) => println!(rt;
+                "  {what}: message {} with agreement {}",
+                found.message, found.reading
+            )?,
+            Answer::Passed(Err(refusal))
+            | Answer::Struck(Err(refusal))
+            | Answer::Searched(Err(refusal)) => println!(rt; "  {what} is {refusal:#}.")?,
+        }
     }
+    Ok(())
 }
 
 // Builds the card and runs a sheet by one list of requests each, refused ones among them.
@@ -98,11 +104,7 @@ pub(crate) fn run_lists(rt: &HostRuntime, length: WordLength) -> Result<()> {
         &mut answers,
     )?;
     println!(rt; "The card and the sheet answer as follows; the sheet ends with {count} passes.")?;
-    for ((name, _), answer) in ROW_REQUESTS.iter().zip(told) {
-        show_told(rt, name, answer)?;
-    }
-    for ((name, _), answer) in SHEET_REQUESTS.iter().zip(answers) {
-        show_answer(rt, name, answer)?;
-    }
+    show_told(rt, told)?;
+    show_answers(rt, answers)?;
     Ok(())
 }
