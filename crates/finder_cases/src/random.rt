@@ -69,13 +69,6 @@ fn draw_group(random: &mut Random, places: usize, rows: &mut [u64]) {
     }
 }
 
-// Draws each row.
-fn draw_rows(random: &mut Random, places: usize, rows: &mut [u64]) {
-    for row in rows.iter_mut() {
-        *row = random.row(places);
-    }
-}
-
 // Offers rows to a section while there is room, and answers how much room is left; rows that are refused are left out.
 fn offer<A: FnMut(u64) -> Result<(), Refusal>>(rows: &[u64], room: usize, mut add_row: A) -> usize
     requires { A.IsAlwaysCallable add_row }
@@ -94,16 +87,16 @@ pub(crate) fn random_card(random: &mut Random) -> Result<FinishedCard, Refusal> 
     let places = random.below(64) + 1;
     let mut rows = [0; SECTION_ROWS];
     let mut group = GroupCard::new(WordLength::new(places)?);
-    let count = random.below(SECTION_ROWS + 1);
-    draw_group(random, places, &mut rows[..count]);
-    let room = offer(&rows[..count], MOST_ROWS, |row| group.add_row(row));
+    let drawn = &mut rows[..random.below(SECTION_ROWS + 1)];
+    draw_group(random, places, drawn);
+    let room = offer(drawn, MOST_ROWS, |row| group.add_row(row));
     let mut transform = group.close_group();
-    let count = random.below(SECTION_ROWS + 1);
-    draw_rows(random, places, &mut rows[..count]);
-    let room = offer(&rows[..count], room, |row| transform.add_row(row));
+    let drawn = &mut rows[..random.below(SECTION_ROWS + 1)];
+    drawn.fill_with(|| random.row(places));
+    let room = offer(drawn, room, |row| transform.add_row(row));
     let mut coset = transform.close_transform();
-    let count = random.below(SECTION_ROWS + 1);
-    draw_rows(random, places, &mut rows[..count]);
-    offer(&rows[..count], room, |row| coset.add_row(row));
+    let drawn = &mut rows[..random.below(SECTION_ROWS + 1)];
+    drawn.fill_with(|| random.row(places));
+    offer(drawn, room, |row| coset.add_row(row));
     Ok(coset.finish())
 }
