@@ -10,4 +10,4 @@ invariant_of-self g c =
     let k = c.self.inside.count in
     let inv = c.self.invariant in
     let room : k < n = omega arith in
-    (length-set t k c.args.row ∙ inv.0, omega arith, zeros_pushed n k c.args.row t inv.0 room inv.2)
+    (length-set t k _ ∙ inv.0, omega arith, zeros_pushed n k _ t inv.0 room inv.2)
