@@ -4,7 +4,7 @@ ghost use Rattle.card.specs.Rows.{dependent};
 ghost use Rattle.card.specs.Cards.{card_rows};
 ghost use Rattle.card.specs.Echelon.{Echelon, Reduced};
 
-use crate::table::CARD_ROWS;
+use crate::table::{CARD_ROWS, put};
 use code::rows::Rows;
 
 // The row with `lead` added where that makes it smaller: without the first digit of `lead`.
@@ -34,7 +34,7 @@ pub(crate) fn is_dependent(rows: &[u64], row: u64) -> bool
     let mut basis = Rows::<CARD_ROWS>::new();
     for other in rows {
         let lead = reduce(basis.as_slice(), *other);
-        basis.push(lead);
+        put(&mut basis, lead);
     }
     reduce(basis.as_slice(), row) == 0
 }

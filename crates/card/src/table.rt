@@ -1,3 +1,6 @@
+ghost use Rattle.std.specs.Prelude.{◌≡◌, ◌<◌, ◌∷◌, [], ◌++◌, length};
+ghost use Rattle.card.specs.Cards.{card_rows};
+
 use code::length::WordLength;
 use code::rows::Rows;
 use std::marker::Model;
@@ -34,4 +37,12 @@ impl Model for Table {
     ghost inverse = { table_of };
 
     ghost inverse_ok = { table_of-card_of };
+}
+
+// One row more in a list that has room for it.
+pub(crate) fn put(rows: &mut Rows<CARD_ROWS>, row: u64)
+    requires { length rows.old < card_rows }
+    ensures { rows.new ≡ rows.old ++ row ∷ [] }
+{
+    rows.push(row);
 }

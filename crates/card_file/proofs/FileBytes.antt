@@ -80,3 +80,8 @@ file_written k n size new out some e all is =
     first_then n (size - 1) new out some
     ∙ ap (λ (m : ℕ). n ∷ (new ++ drop m out)) last
     ∙ ap₂ (λ (x : ℕ) (y : List ℕ). x ∷ (y ++ drop (length (file_of k)) out)) e is
+
+-- a card by its parts
+pub card_is : (k : Card) {n : ℕ} {g t c : List ℕ} → n ≡ k.len → g ≡ k.group → t ≡ k.transform → c ≡ k.coset
+    → ◌≡◌ {A = Card} (record { len = n; group = g; transform = t; coset = c }) k
+card_is k a p q r i = record { len = a i; group = p i; transform = q i; coset = r i }

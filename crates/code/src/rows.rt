@@ -42,13 +42,15 @@ impl<const N: usize> Rows<N> {
         &table[0..self.count]
     }
 
-    // One row more, after the others.
+    // One row more, after the others; where there are N already, the rows stay as they are.
     pub fn push(&mut self, row: u64)
-        requires { length self.old < N }
-        ensures { self.new ≡ self.old ++ row ∷ [] }
+        ensures room { length self.old < N → self.new ≡ self.old ++ row ∷ [] }
+        ensures full { length self.old ≡ N → self.new ≡ self.old }
     {
-        self.table[self.count] = row;
-        self.count += 1;
+        if self.count < N {
+            self.table[self.count] = row;
+            self.count += 1;
+        }
     }
 
     // The first N of the rows, or all where there are fewer.

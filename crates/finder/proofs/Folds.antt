@@ -1,5 +1,5 @@
 -- One turn of the loops that fold a word.
-use Rattle.std.proofs.Common.{◌≡◌, ℕ, ◌+◌, ◌*◌, ◌/◌, ◌%◌, ◌^◌, ◌<◌, ◌≤◌, cond, eqb, List, [], ◌∷◌, length, get_or, take, set, reverse, ℤ, pos, ◌+ℤ◌, sum_by, sym, refl, ap, ◌∙◌, ⊎_elim, add-one, arith, pow_mono, mod-eq_of_lt}
+use Rattle.std.proofs.Common.{◌≡◌, ℕ, ◌+◌, ◌*◌, ◌/◌, ◌%◌, ◌^◌, ◌<◌, ◌≤◌, cond, eqb, List, [], ◌∷◌, length, get_or, take, set, reverse, pos, ◌+ℤ◌, sum_by, sym, refl, ap, ◌∙◌, ⊎_elim, add-one, arith, pow_mono, mod-eq_of_lt}
 use lib.IntN.{+ℤ_idr}
 use Rattle.std.specs.List.{fold}
 use Rattle.std.specs.Int.Bits.{bit_or}

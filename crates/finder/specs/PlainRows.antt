@@ -11,7 +11,7 @@ use Rattle.hadamard.specs.Transform.{spectrum, Transformed, verdict, weight_at}
 use Rattle.hadamard.proofs.Powers.{verdict-taken}
 use Rattle.hadamard.proofs.Sums.{summed_ext}
 use Rattle.finder.specs.Fold.{column, column_rows, sum_of_slot}
-use Rattle.finder.specs.Search.{Lawful, Meaning}
+use Rattle.finder.specs.Search.{Lawful}
 use Rattle.finder.specs.Gather.{column_below, folded_agrees}
 use Rattle.reading.specs.declared.Reading.{Ghosts as Kind}
 

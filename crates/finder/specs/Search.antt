@@ -1,5 +1,5 @@
 -- What a finder is, and what a search answers, refuses and leaves.
-use Rattle.std.specs.Prelude.{◌≡◌, ℕ, ◌+◌, ◌*◌, ◌^◌, ◌<◌, ◌≤◌, cond, List, [], ◌∷◌, map, length, drop, ℤ, Some, None, Option, ◌==◌, nat_le, slice_index}
+use Rattle.std.specs.Prelude.{◌≡◌, ℕ, ◌+◌, ◌*◌, ◌^◌, ◌<◌, ◌≤◌, cond, List, [], ◌∷◌, map, length, drop, Some, None, Option, ◌==◌, nat_le, slice_index}
 use Rattle.code.specs.Limits.{Length, size_limit, max_rows}
 use Rattle.code.specs.Words.{Best, agrees}
 use Rattle.code.specs.declared.refusal.Refusal.{Refusal}

@@ -1,5 +1,5 @@
 -- One more butterfly of a block.
-use Rattle.std.proofs.Common.{◌≡◌, ℕ, ◌+◌, ◌-◌, ◌<◌, ◌≤◌, ◌≢◌, List, ◌++◌, map, length, get_or, set, ℤ, pos, ◌+ℤ◌, neg_ℤ, sum_by, sym, ap, ◌∙◌, ap₂, subst, arith, below_more, length-append}
+use Rattle.std.proofs.Common.{◌≡◌, ℕ, ◌+◌, ◌-◌, ◌<◌, ◌≤◌, ◌≢◌, List, ◌++◌, map, length, get_or, set, pos, ◌+ℤ◌, neg_ℤ, sum_by, sym, ap, ◌∙◌, ap₂, subst, arith, below_more, length-append}
 use Rattle.std.proofs.lemmas.List.{length-set, get_or_append_left, get_or-append_right, set-append_left, set-append_right}
 use Rattle.hadamard.specs.Transform.{weight_at, size_at}
 use Rattle.hadamard.specs.Stages.{Crossed}

@@ -1,5 +1,5 @@
 -- The transform of a list by the transforms of two of half its length.
-use Rattle.std.proofs.Common.{◌≡◌, ℕ, ◌+◌, ◌^◌, ◌<◌, ◌≤◌, List, map, length, take, drop, ℤ, pos, ◌+ℤ◌, neg_ℤ, sum_by, sym, ap, ◌∙◌, subst, arith}
+use Rattle.std.proofs.Common.{◌≡◌, ℕ, ◌+◌, ◌^◌, ◌<◌, ◌≤◌, List, map, length, take, drop, pos, ◌+ℤ◌, neg_ℤ, sum_by, sym, ap, ◌∙◌, subst, arith}
 use Rattle.std.proofs.lemmas.List.{length-map, length-take-le, length-drop}
 use Rattle.code.specs.Words.{negated_if}
 use Rattle.hadamard.specs.Transform.{weight_at, size_at, summed, odd_common, spectrum}

@@ -1,5 +1,5 @@
 -- What the stages of the transform have done so far.
-use Rattle.std.specs.Prelude.{◌≡◌, ℕ, ◌+◌, ◌*◌, ◌<◌, ◌≤◌, List, map, take, drop, ℤ, ◌+ℤ◌, neg_ℤ, sum_by}
+use Rattle.std.specs.Prelude.{◌≡◌, ℕ, ◌+◌, ◌*◌, ◌<◌, ◌≤◌, List, map, take, drop, ◌+ℤ◌, neg_ℤ, sum_by}
 use Rattle.hadamard.specs.Transform.{spectrum, weight_at, size_at}
 use Rattle.reading.specs.declared.Reading.{Ghosts as Kind}
 

@@ -165,11 +165,11 @@ search_by kind own by t u before after r same = subst (λ (m : Meaning). SearchL
 pub served_search : {R N : Type 0} (kind : Kind R) (by : N → Meaning) (name : Bor N) (t u : Sheet R) (before after : List R) (r : Result (Found R) Refusal) →
     SearchLaw kind t u (by name.now) before after r → Served kind by (length before) t u (request.Search name) before after (Searched r)
 served_search kind by name t u before after r law = record {
-    book = λ h st. let b = law.book h st in (b.0, (r, refl, b.1));
-    call = (r, refl, law);
-    kept = kept_same law.same;
-    spared = spares r law.cells;
-  }
+  book = λ h st. let b = law.book h st in (b.0, (r, refl, b.1));
+  call = (r, refl, law);
+  kept = kept_same law.same;
+  spared = spares r law.cells;
+}
   where
     spares : (x : Result (Found _) Refusal) → MatchResult x
         (Answered kind (by name.now) (front t) before after)

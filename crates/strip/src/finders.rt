@@ -6,8 +6,8 @@ ghost use Rattle.strip.specs.Finders.{FindersOf, finder_of};
 
 use crate::Method;
 use card::states::FinishedCard;
-use code::refusal::Refusal;
 use card_finder::card_finder;
+use code::refusal::Refusal;
 use coset_layer::CosetLayer;
 use finder::Finder;
 use finder::either::Either;
@@ -17,8 +17,10 @@ use reading::Reading;
 use sheet::run::{Answer, Request, run_over_by};
 
 // A finder of a card: the plain finder or the group finder, under the card's coset layers.
-pub(crate) type CardFinder =
-    Either<CosetLayer<CosetLayer<PlainFinder>>, CosetLayer<CosetLayer<GroupFinder>>>;
+pub(crate) type CardFinder = Either<
+    CosetLayer<CosetLayer<PlainFinder>>,
+    CosetLayer<CosetLayer<GroupFinder>>,
+>;
 
 // The finders of a card.
 #[derive(Clone, Copy)]

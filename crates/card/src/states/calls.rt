@@ -7,6 +7,7 @@ use crate::table::Table;
 use code::length::WordLength;
 use code::refusal::{Refusal, Section};
 
+// The states are four types by a rule of the project, so each has a contract of its own for `add_row`.
 impl GroupCard {
     // A card just started, with no rows.
     pub fn new(len: WordLength) -> GroupCard

@@ -1,7 +1,7 @@
 ghost use Rattle.std.specs.Prelude.{◌≡◌, ◌∷◌, [], ◌++◌, IfOk, OnErr, OnOk};
 ghost use Rattle.card.specs.Cards.{added, blank, encoded, Lawful, NoneAfter, Only, rows_of, Told, verdict};
 
-use super::Table;
+use super::{Table, put};
 use code::length::WordLength;
 use code::refusal::{Refusal, Section};
 use code::rows::Rows;
@@ -34,7 +34,7 @@ impl Table {
         ensures lawful { Lawful self.new }
     {
         self.check(section, row)?;
-        self.rows.push(row);
+        put(&mut self.rows, row);
         match section {
             Section::Group => self.group += 1,
             Section::Transform => self.transform += 1,

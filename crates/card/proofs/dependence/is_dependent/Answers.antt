@@ -15,7 +15,7 @@ loop-other-preserved c =
     let i = c.loop-other.other-index in
     let x = c.reduce-lead.result in
     let r : Reduced basis (get_or rows i 0) x = rw (← c.as_slice.ensures.value) c.reduce-lead.ensures in
-    rw (c.push.ensures, take_more rows i 0 c.loop-other-test.true) (record {
+    rw (c.put.ensures, take_more rows i 0 c.loop-other-test.true) (record {
       count = length_push basis x ∙ ap (λ n. n + 1) c.loop-other.invariant.count;
       echelon = echelon_push basis x c.loop-other.invariant.echelon r.lacks;
       same = same_span_push basis (take i rows) x (get_or rows i 0) c.loop-other.invariant.same r.spans;

@@ -1,9 +1,8 @@
-use Rattle.std.proofs.Common.{◌≡◌, ℕ, ◌+◌, ◌-◌, ◌≤◌, List, refl, length, take, sym, ap, ap₂, ◌∙◌, subst, arith}
+use Rattle.std.proofs.Common.{◌≡◌, ℕ, ◌+◌, ◌-◌, List, refl, length, take, sym, ap, ap₂, ◌∙◌, subst, arith}
 use Rattle.std.proofs.lemmas.List.{take_all, length-take}
 use Rattle.code.specs.Limits.{Length}
 use Rattle.card.specs.Rows.{Within}
 use Rattle.card.specs.Cards.{Card, Lawful, rows_of}
-use Rattle.finder.specs.Search.{Meaning}
 use Rattle.finder.proofs.CardRows.{first_two, first_few, first_within}
 use Rattle.finder.proofs.plain.first_rows.Goals as goal
 
