@@ -27,7 +27,7 @@ fn read_lines(bytes: &[u8]) -> Result<FinishedCard, TextFault>
     ensures answer { MatchResult result (λ k. Ok k ≡ read_text_lem bytes.now) (λ e. Err e ≡ read_text_lem bytes.now) }
     ensures says { IfOk result (λ k. text_says bytes.now ≡ card_says k) }
 {
-    let mut draft = Draft::Unset;
+    let mut draft = None;
     let mut count = 0;
     for line in bytes.split(|byte| *byte == NEWLINE) {
         count += 1;
@@ -40,7 +40,7 @@ fn read_lines(bytes: &[u8]) -> Result<FinishedCard, TextFault>
 }
 
 // The draft after one line more, which has that number.
-fn read_line(draft: Draft, number: usize, bytes: &[u8]) -> Result<Draft, TextFault>
+fn read_line(draft: Option<Draft>, number: usize, bytes: &[u8]) -> Result<Option<Draft>, TextFault>
     ensures { MatchResult result (λ d. Ok (stage_of d) ≡ in_line number (line_read (stage_of draft) (trimmed bytes.now))) (λ e. Err e ≡ in_line number (line_read (stage_of draft) (trimmed bytes.now))) }
 {
     read_entry(draft, without_return(bytes)).map_err(|problem| TextFault {
@@ -50,7 +50,7 @@ fn read_line(draft: Draft, number: usize, bytes: &[u8]) -> Result<Draft, TextFau
 }
 
 // The draft after what a line says.
-fn read_entry(draft: Draft, line: &[u8]) -> Result<Draft, Problem>
+fn read_entry(draft: Option<Draft>, line: &[u8]) -> Result<Option<Draft>, Problem>
     ensures { MatchResult result (λ d. Ok (stage_of d) ≡ line_read (stage_of draft) line.now) (λ e. Err e ≡ line_read (stage_of draft) line.now) }
 {
     if is_passed_over(line) {
