@@ -120,8 +120,8 @@ section_back : (n : ℕ) (s : Section) (rows : List ℕ) (o : Section) (k : Card
     ≡ lines_read (taking n (last_open o s rows) (with_rows k s rows)) (i + length rows) (lines_of rest)
 unfolding last_open accepts with_rows
 section_back n s [] o k i rest le w h =
-    let e : i ≡ i + 0 = omega arith in
-    ap (λ (m : ℕ). lines_read (taking n o k) m (lines_of rest)) e
+    let e : i + 0 ≡ i = omega arith in
+    rw e
 section_back n s (r ∷ rs) o k i rest le w (v, small, h) =
     let line = label_of s ++ digits_of n r in
     let more = section_text s n rs ++ rest in
