@@ -1,8 +1,7 @@
 -- A text read line by line.
-use Rattle.std.proofs.Common.{◌≡◌, ℕ, ◌+◌, ◌-◌, ◌<◌, List, length, get_or, drop, Ok, Err, Result, IfOk, MatchResult, sym, ap, ◌∙◌, arith}
+use Rattle.std.proofs.Common.{◌≡◌, ℕ, ◌+◌, ◌-◌, ◌<◌, List, length, get_or, drop, Ok, Err, Result, IfOk, sym, ap, ◌∙◌, arith}
 use Rattle.std.proofs.lemmas.List.{at_drop_more, at_drop_all}
 use Rattle.card.specs.Cards.{Card}
-use Rattle.card.specs.declared.states.FinishedCard.{FinishedCard}
 use Rattle.card_text.specs.declared.fault.TextFault.{TextFault}
 use Rattle.card_text.specs.Sayings.{card_says, text_says}
 use Rattle.card_text.specs.Lines.{lines_of, trimmed}
@@ -32,11 +31,7 @@ left_none bytes i n d all l =
     let last : n ≡ i + 1 - 1 = omega (arith, l.counted) in
     rw last (sym (at_drop_all (lines_read d (i + 1)) (lines_of bytes) i (omega (arith, all))) ∙ l.reads)
 
--- r is a card, or the fault, that the reading x gives
-abbrev pub Described : Result FinishedCard TextFault → Result Card TextFault → Type 0
-Described r x = MatchResult r (λ k. Ok k ≡ x) (λ e. Err e ≡ x)
-
 -- a card that a text is read as says what the text does
-pub says_described : (bytes : List ℕ) (r : Result FinishedCard TextFault) → Described r (read_text_lem bytes) → IfOk r (λ k. text_says bytes ≡ card_says k)
+pub says_described : (bytes : List ℕ) (r : Result Card TextFault) → r ≡ read_text_lem bytes → IfOk r (λ k. text_says bytes ≡ card_says k)
 says_described bytes (Ok k) h = text_says-read bytes k (sym h)
 says_described bytes (Err f) h = tt

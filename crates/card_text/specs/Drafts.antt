@@ -6,8 +6,8 @@ use Rattle.code.specs.declared.refusal.Refusal.{Refusal}
 use Rattle.code.specs.declared.refusal.Refusal.TheVariants.{LengthOutOfRange}
 use Rattle.code.specs.Limits.{max_places}
 use Rattle.card.specs.Cards.{Card, blank, pushed, verdict}
+use Rattle.card.specs.declared.open.OpenCard.{OpenCard}
 use Rattle.card.specs.OpenCards.{open_of, shown}
-use Rattle.card_text.specs.declared.draft.Draft.{Draft}
 use Rattle.card_text.specs.declared.fault.Problem.{Problem}
 use Rattle.card_text.specs.declared.fault.Problem.TheVariants.{UnknownKeyword, LengthMissing, LengthAgain, LengthNotDecimal, SectionClosed, Refused}
 use Rattle.card_text.specs.declared.fault.TextFault.{TextFault}
@@ -98,8 +98,8 @@ abbrev pub refilled : Result Card TextFault → Card → Card
 refilled (Ok k) old = k
 refilled (Err _) old = old
 
--- ---- what the code's values stand for
+-- ---- what a length and a card in the making stand for
 
-abbrev pub stage_of : Option Draft → Stage
+abbrev pub stage_of : Option (ℕ × OpenCard) → Stage
 stage_of None = unset
-stage_of (Some d) = taking d.length (open_of d.card) (shown d.card)
+stage_of (Some (n, k)) = taking n (open_of k) (shown k)

@@ -1,8 +1,7 @@
 // The card that the lines of a text have described so far.
-ghost use Rattle.std.specs.Prelude.{◌≡◌, Some, Ok, Err, MatchResult};
+ghost use Rattle.std.specs.Prelude.{◌≡◌, Ok, Err, MatchResult};
 ghost use Rattle.card.specs.OpenCards.{open_of, shown};
-ghost use Rattle.card_text.specs.Lines.{decimal_of_lem};
-ghost use Rattle.card_text.specs.Drafts.{finished, length_read, reopened, row_added, stage_of, started};
+ghost use Rattle.card_text.specs.Drafts.{unset, finished, length_read, reopened, row_added, started};
 
 use crate::fault::Problem;
 use crate::line::{decimal_of, read_row};
@@ -10,44 +9,72 @@ use card::open::{AnyCard, OpenCard};
 use card::states::FinishedCard;
 use code::length::WordLength;
 use code::refusal::Section;
+use std::marker::Model;
 
-// A length and a card of that length, which the lines so far have given. A card that takes rows does not tell its
-// length, so the draft keeps it beside the card.
+// What the lines so far have given: nothing, or a length and a card of that length. A card that takes rows does not tell
+// its length, so that is kept beside the card.
 #[derive(Drop)]
 pub(crate) struct Draft {
-    length: WordLength,
-    card: OpenCard,
+    given: Option<(WordLength, OpenCard)>,
 }
 
-// The draft after a line that gives the length.
-pub(crate) fn set_length(draft: Option<Draft>, digits: &[u8]) -> Result<Option<Draft>, Problem>
-    ensures { MatchResult result (λ d. Ok (stage_of d) ≡ length_read (stage_of draft) digits.now) (λ e. Err e ≡ length_read (stage_of draft) digits.now) }
-{
-    if draft.is_some() {
-        return Err(Problem::LengthAgain);
+impl Model for Draft {
+    ghost use Rattle.card_text.specs.Drafts.{Stage, stage_of};
+
+    ghost Value = { Stage };
+
+    ghost view = { λ d. stage_of d.given };
+}
+
+impl Draft {
+    // The draft before the first line.
+    pub(crate) fn new() -> Draft
+        ensures { result ≡ unset }
+    {
+        Draft { given: None }
     }
-    start(decimal_of(digits))
+
+    // The draft after a line that gives the length.
+    pub(crate) fn set_length(self, digits: &[u8]) -> Result<Draft, Problem>
+        ensures { result ≡ length_read self digits.now }
+    {
+        if self.given.is_some() {
+            return Err(Problem::LengthAgain);
+        }
+        start(decimal_of(digits))
+    }
+
+    // The draft after a line that gives a row.
+    pub(crate) fn add_row(self, section: Section, digits: &[u8]) -> Result<Draft, Problem>
+        ensures { result ≡ row_added section self digits.now }
+    {
+        let (length, card) = self.given.ok_or(Problem::LengthMissing)?;
+        let mut card = move_to(card, section)?;
+        let row = read_row(length, section, digits)?;
+        card.add_row(row)?;
+        Ok(Draft {
+            given: Some((length, card)),
+        })
+    }
+
+    // The card that the draft describes, taking no more rows.
+    pub(crate) fn finish(self) -> Result<FinishedCard, Problem>
+        ensures { result ≡ finished self }
+    {
+        let (_, card) = self.given.ok_or(Problem::LengthMissing)?;
+        Ok(card.finish())
+    }
 }
 
 // The draft of a length, with no rows.
-fn start(number: Option<usize>) -> Result<Option<Draft>, Problem>
-    ensures { MatchResult result (λ d. Ok (stage_of d) ≡ started number) (λ e. Err e ≡ started number) }
+fn start(number: Option<usize>) -> Result<Draft, Problem>
+    ensures { result ≡ started number }
 {
     let places = number.ok_or(Problem::LengthNotDecimal)?;
     let length = WordLength::new(places)?;
-    let card = OpenCard::new(length);
-    Ok(Some(Draft { length, card }))
-}
-
-// The draft after a line that gives a row.
-pub(crate) fn add_row(draft: Option<Draft>, section: Section, digits: &[u8]) -> Result<Option<Draft>, Problem>
-    ensures { MatchResult result (λ d. Ok (stage_of d) ≡ row_added section (stage_of draft) digits.now) (λ e. Err e ≡ row_added section (stage_of draft) digits.now) }
-{
-    let Draft { length, card } = draft.ok_or(Problem::LengthMissing)?;
-    let mut card = move_to(card, section)?;
-    let row = read_row(length, section, digits)?;
-    card.add_row(row)?;
-    Ok(Some(Draft { length, card }))
+    Ok(Draft {
+        given: Some((length, OpenCard::new(length))),
+    })
 }
 
 // The same card with that section open, unless the section is closed.
@@ -62,12 +89,4 @@ fn move_to(card: OpenCard, section: Section) -> Result<OpenCard, Problem>
         open = next;
     }
     Ok(open)
-}
-
-// The card that a draft describes, taking no more rows.
-pub(crate) fn finish(draft: Option<Draft>) -> Result<FinishedCard, Problem>
-    ensures { MatchResult result (λ k. Ok k ≡ finished (stage_of draft)) (λ e. Err e ≡ finished (stage_of draft)) }
-{
-    let draft = draft.ok_or(Problem::LengthMissing)?;
-    Ok(draft.card.finish())
 }
