@@ -67,11 +67,6 @@ digits_step p n rest out done some room h =
     let less : n - p ≡ suc (n - (p + 1)) = omega arith in
     ap (over (p + 1) ds) (over-set p b out (omega arith)) ∙ over-over p (b ∷ []) ds out (omega arith) ∙ rw less at h
 
-pub digits_done : (p n rest : ℕ) (out done : List ℕ) → n ≤ p → over p (digits_of (n - p) rest) out ≡ done → out ≡ done
-digits_done p n rest out done none h =
-    let zero-left : n - p ≡ 0 = omega arith in
-    sym (over_none p out) ∙ rw zero-left at h
-
 -- ---- rows
 
 pub length-row_line : (s : Section) (n row : ℕ) → length (row_line s n row) ≡ length (label_of s) + n + 1

@@ -9,20 +9,6 @@ use Rattle.card_text.proofs.Writings.{text_length, text_written}
 use Rattle.card_text.proofs.TextBack.{text_back}
 use Rattle.card_text.proofs.write.write_lines.Goals as goal
 
-pub returns-then-out-length_size : goal.returns-then-out-length_size
-returns-then-out-length_size c =
-    let k = c.args.card.now in
-    let out = c.args.out.now in
-    let G = c.section_rows-group.result.now in
-    let T = c.section_rows-transform.result.now in
-    let C = c.section_rows-coset.result.now in
-    let n = c.word_length-len.result in
-    let same : ◌≡◌ {A = Card} (record { len = n; group = G; transform = T; coset = C }) k =
-    card_is k (c.word_length-len.ensures.value) c.section_rows-group.ensures.value c.section_rows-transform.ensures.value c.section_rows-coset.ensures.value in
-    let b : ltb (length out) (length (text_of k)) ≡ true =
-    lt-ltb (length out) (length (text_of k)) (omega (arith, text_length n G T C, ap (λ (q : Card). length (text_of q)) same)) in
-    record { answer = simp b; bytes = simp b; back = tt }
-
 pub returns : goal.returns
 returns c =
     let k = c.args.card.now in

@@ -3,18 +3,6 @@ use Rattle.card_text.specs.Texts.{digits_of, over}
 use Rattle.card_text.proofs.Writings.{digits_length, label_size, length-row_line, over_three}
 use Rattle.card_text.proofs.write.write_row.Goals as goal
 
-pub write_word-word-requires : goal.write_word-word-requires
-write_word-word-requires c =
-    omega (arith, c.requires, label_size c.word_of.result.now c.args.section c.word_of.ensures.value, length-row_line c.args.section c.args.len c.args.row)
-
-pub write_digits-digits-requires : goal.write_digits-digits-requires
-write_digits-digits-requires c =
-    omega (arith, c.requires, label_size c.word_of.result.now c.args.section c.word_of.ensures.value, length-row_line c.args.section c.args.len c.args.row, digits_length c.args.len c.args.row)
-
-pub write_bytes-requires : goal.write_bytes-requires
-write_bytes-requires c =
-    omega (arith, c.requires, label_size c.word_of.result.now c.args.section c.word_of.ensures.value, length-row_line c.args.section c.args.len c.args.row, digits_length c.args.len c.args.row)
-
 pub returns : goal.returns
 returns c =
     let s = c.args.section in
