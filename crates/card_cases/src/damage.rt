@@ -1,6 +1,5 @@
 // Files of code E cut and damaged, and a list of requests.
-use crate::failure::{Failure, expect};
-use crate::trips::same;
+use anyhow::ensure;
 use card::states::{FinishedCard, GroupCard};
 use card_file::read::read_card;
 use card_file::write::write_card;
@@ -28,18 +27,20 @@ fn bytes_of_e() -> Result<[u8; E_BYTES], Refusal> {
     Ok(bytes)
 }
 
-// Whether the file is refused so, and the card that it was to fill is as it was.
-fn refused_with(bytes: &[u8], due: Refusal) -> Result<bool, Refusal> {
+// The file is refused so, and the card that it was to fill is as it was.
+fn expect_refused(bytes: &[u8], due: Refusal) -> anyhow::Result<()> {
     let mut card = code_e()?;
     let answer = read_card(bytes, &mut card);
-    Ok(answer == Err(due) && same(&card, &code_e()?))
+    ensure!(answer == Err(due), "a file was not {due:#}");
+    ensure!(card == code_e()?, "a file that was refused changed the card");
+    Ok(())
 }
 
 // Every file that is shorter than code E's ends early.
-pub(crate) fn truncations() -> Result<usize, Failure> {
+pub(crate) fn truncations() -> anyhow::Result<usize> {
     let bytes = bytes_of_e()?;
     for cut in 0..E_BYTES {
-        expect(refused_with(&bytes[0..cut], Refusal::BytesEndEarly)?)?;
+        expect_refused(&bytes[0..cut], Refusal::BytesEndEarly)?;
     }
     Ok(E_BYTES)
 }
@@ -92,26 +93,26 @@ fn damages() -> [(usize, u8, Refusal); 19] {
 }
 
 // Tries each damaged file, and tells how many were tried.
-pub(crate) fn damaged() -> Result<usize, Failure> {
+pub(crate) fn damaged() -> anyhow::Result<usize> {
     let damages = damages();
     for (at, byte, due) in damages {
-        expect(refused_with(&changed(at, byte)?, due)?)?;
+        expect_refused(&changed(at, byte)?, due)?;
     }
-    expect(broken_group()?)?;
-    expect(byte_too_many()?)?;
-    expect(longest_length()?)?;
+    broken_group()?;
+    byte_too_many()?;
+    longest_length()?;
     Ok(damages.len() + 2)
 }
 
 // Group rows 3, 6 and 9: the third breaks concurrence.
-fn broken_group() -> Result<bool, Refusal> {
+fn broken_group() -> anyhow::Result<()> {
     let mut bytes = [0; E_BYTES];
     bytes[0] = 5;
     bytes[1] = 3;
     bytes[2] = 3;
     bytes[10] = 6;
     bytes[18] = 9;
-    refused_with(
+    expect_refused(
         &bytes,
         Refusal::ConcurrenceBroken {
             section: Section::Group,
@@ -120,17 +121,21 @@ fn broken_group() -> Result<bool, Refusal> {
     )
 }
 
-fn byte_too_many() -> Result<bool, Refusal> {
+fn byte_too_many() -> anyhow::Result<()> {
     let mut bytes = [0; 37];
     write_card(&code_e()?, &mut bytes)?;
-    refused_with(&bytes, Refusal::BytesLeftOver)
+    expect_refused(&bytes, Refusal::BytesLeftOver)
 }
 
 // Code E's rows are taken with a length of 64 too.
-fn longest_length() -> Result<bool, Refusal> {
+fn longest_length() -> anyhow::Result<()> {
     let mut card = FinishedCard::new();
     read_card(&changed(0, 64)?, &mut card)?;
-    Ok(card.word_length().places() == 64 && card.rows() == code_e()?.rows())
+    ensure!(
+        card.word_length().places() == 64 && card.rows() == code_e()?.rows(),
+        "code E's rows of length 64 were read as others"
+    );
+    Ok(())
 }
 
 fn add(row: u64) -> Request {
@@ -168,14 +173,20 @@ fn requests() -> [(Request, Answer); REQUESTS] {
 }
 
 // Runs the list, and once more with too little memory for the answers.
-pub(crate) fn own_list() -> Result<usize, Failure> {
+pub(crate) fn own_list() -> anyhow::Result<usize> {
     let list = requests().map(|(request, _)| request);
     let due = requests().map(|(_, answer)| answer);
     let mut answers = [Answer::Closed; 14];
     let count = run_requests(WordLength::new(5)?, &list, &mut answers)?;
-    expect(count == REQUESTS && &answers[..REQUESTS] == due.as_slice())?;
+    ensure!(
+        count == REQUESTS && &answers[..REQUESTS] == due.as_slice(),
+        "the list of requests was not answered as due"
+    );
     let mut few = [Answer::Closed; 12];
     let short = run_requests(WordLength::new(5)?, &list, &mut few);
-    expect(short == Err(Refusal::OutputShort))?;
+    ensure!(
+        short == Err(Refusal::OutputShort),
+        "memory too short for the answers was not refused"
+    );
     Ok(REQUESTS)
 }

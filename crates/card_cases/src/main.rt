@@ -2,21 +2,23 @@
 
 mod codes;
 mod damage;
-mod failure;
 mod random;
 mod trips;
 
+use anyhow::ensure;
 use code::refusal::Section;
 use codes::Code;
-use failure::{Failure, expect};
 
-fn show_code(rt: &HostRuntime, code: &Code) -> Result<(), Failure> {
+fn show_code(rt: &HostRuntime, code: &Code) -> anyhow::Result<()> {
     let rows = code.rows(rt.alloc())?;
     let card = codes::build(code.n, rows.as_slice())?;
     let (name, n, k) = (code.name, code.n, rows.len());
-    expect(card.rows().len() == k)?;
-    expect(trips::reads_back(&card)?)?;
-    expect(trips::encodes_apart(&card)?)?;
+    ensure!(
+        card.rows().len() == k,
+        "the card of {name} does not have {k} rows"
+    );
+    trips::expect_read_back(&card)?;
+    trips::expect_encoded_apart(&card)?;
     let group = card.section_rows(Section::Group).len();
     let transform = card.section_rows(Section::Transform).len();
     let coset = card.section_rows(Section::Coset).len();
@@ -26,7 +28,7 @@ fn show_code(rt: &HostRuntime, code: &Code) -> Result<(), Failure> {
     Ok(())
 }
 
-fn run(rt: &HostRuntime) -> Result<(), Failure> {
+fn run(rt: &HostRuntime) -> anyhow::Result<()> {
     for code in codes::CODES {
         show_code(rt, &code)?;
     }
@@ -51,6 +53,6 @@ fn run(rt: &HostRuntime) -> Result<(), Failure> {
     Ok(())
 }
 
-fn main(rt: HostRuntime) -> Result<(), Failure> {
+fn main(rt: HostRuntime) -> anyhow::Result<()> {
     run(&rt)
 }

@@ -1,5 +1,6 @@
 // Dependence and concurrence beside plain searches, on pseudo-random rows.
-use crate::failure::{Failure, expect};
+use anyhow::{bail, ensure};
+use card::open::{AnyCard, OpenCard};
 use card::states::GroupCard;
 use code::length::WordLength;
 use code::refusal::Refusal;
@@ -53,29 +54,31 @@ fn judge(
     row: u64,
     broken: bool,
     answer: Result<(), Refusal>,
-) -> Result<(), Failure> {
+) -> anyhow::Result<()> {
     let sum = is_some_sum(taken.as_slice(), row);
     match answer {
         Ok(()) => {
-            expect(!sum && !broken)?;
+            ensure!(!sum && !broken, "row {row} was taken");
             taken.push(row)?;
-            Ok(())
         }
-        Err(Refusal::DependentRow { .. }) => expect(sum),
-        Err(Refusal::ConcurrenceBroken { .. }) => expect(!sum && broken),
-        Err(refusal) => Err(Failure::Refused { refusal }),
+        Err(Refusal::DependentRow { .. }) => ensure!(sum, "row {row} is no sum"),
+        Err(Refusal::ConcurrenceBroken { .. }) => {
+            ensure!(!sum && broken, "row {row} breaks no concurrence")
+        }
+        Err(refusal) => bail!(refusal),
     }
+    Ok(())
 }
 
 // Tries a row at most `tries` times, as long as the card has fewer than `most` rows. `try_row` makes a row, hands it to
 // the card, and tells whether it was refused by the check that is looked at.
-fn try_rows<F: FnMut(&mut Vec<u64>) -> Result<bool, Failure>>(
+fn try_rows<F: FnMut(&mut Vec<u64>) -> anyhow::Result<bool>>(
     taken: &mut Vec<u64>,
     tries: u32,
     most: usize,
     seen: &mut Seen,
     mut try_row: F,
-) -> Result<(), Failure>
+) -> anyhow::Result<()>
     requires { F.IsAlwaysCallable try_row }
 {
     for _ in 0..tries {
@@ -87,29 +90,29 @@ fn try_rows<F: FnMut(&mut Vec<u64>) -> Result<bool, Failure>>(
 }
 
 // Rows of one length, added to the transform section until it is full and then to the coset section.
-fn dependence_at(alloc: Global, places: usize, seed: u64, seen: &mut Seen) -> Result<(), Failure> {
+fn dependence_at(alloc: Global, places: usize, seed: u64, seen: &mut Seen) -> anyhow::Result<()> {
     let mut taken = Vec::new(alloc);
     let mut state = seed;
-    let mut transform = GroupCard::new(WordLength::new(places)?).close_group();
-    try_rows(&mut taken, 12, 8, seen, |taken| {
-        state = next(state);
-        let row = high(state, places);
-        let answer = transform.add_row(row);
-        judge(taken, row, false, answer)?;
-        Ok(matches!(answer, Err(Refusal::DependentRow { .. })))
-    })?;
-    let mut coset = transform.close_transform();
-    try_rows(&mut taken, 8, 12, seen, |taken| {
-        state = next(state);
-        let row = high(state, places);
-        let answer = coset.add_row(row);
-        judge(taken, row, false, answer)?;
-        Ok(matches!(answer, Err(Refusal::DependentRow { .. })))
-    })
+    let group = GroupCard::new(WordLength::new(places)?);
+    let mut card = OpenCard::InTransform(group.close_group());
+    for (tries, most) in [(12, 8), (8, 12)] {
+        try_rows(&mut taken, tries, most, seen, |taken| {
+            state = next(state);
+            let row = high(state, places);
+            let answer = card.add_row(row);
+            judge(taken, row, false, answer)?;
+            Ok(matches!(answer, Err(Refusal::DependentRow { .. })))
+        })?;
+        let AnyCard::Open(next) = card.move_on() else {
+            break;
+        };
+        card = next;
+    }
+    Ok(())
 }
 
 // Group rows of few digits 1.
-fn concurrence_at(alloc: Global, places: usize, seed: u64, seen: &mut Seen) -> Result<(), Failure> {
+fn concurrence_at(alloc: Global, places: usize, seed: u64, seen: &mut Seen) -> anyhow::Result<()> {
     let mut taken = Vec::new(alloc);
     let mut state = seed;
     let mut group = GroupCard::new(WordLength::new(places)?);
@@ -125,10 +128,10 @@ fn concurrence_at(alloc: Global, places: usize, seed: u64, seen: &mut Seen) -> R
 }
 
 // Forty trials, of ten lengths from the shortest on.
-fn trials<F: FnMut(usize, u64, &mut Seen) -> Result<(), Failure>>(
+fn trials<F: FnMut(usize, u64, &mut Seen) -> anyhow::Result<()>>(
     shortest: usize,
     mut trial: F,
-) -> Result<Seen, Failure>
+) -> anyhow::Result<Seen>
     requires { F.IsAlwaysCallable trial }
 {
     let mut seen = Seen {
@@ -144,14 +147,14 @@ fn trials<F: FnMut(usize, u64, &mut Seen) -> Result<(), Failure>>(
 }
 
 // Rows of 5 to 14 places beside the search over all choices of the rows on the card.
-pub(crate) fn dependence(alloc: Global) -> Result<Seen, Failure> {
+pub(crate) fn dependence(alloc: Global) -> anyhow::Result<Seen> {
     trials(5, |places, seed, seen| {
         dependence_at(alloc, places, seed, seen)
     })
 }
 
 // Rows of 3 to 12 places beside the count at every place.
-pub(crate) fn concurrence(alloc: Global) -> Result<Seen, Failure> {
+pub(crate) fn concurrence(alloc: Global) -> anyhow::Result<Seen> {
     trials(3, |places, seed, seen| {
         concurrence_at(alloc, places, seed, seen)
     })

@@ -1,8 +1,7 @@
 -- A text read line by line.
-use Rattle.std.proofs.Common.{◌≡◌, ℕ, ◌+◌, ◌-◌, ◌<◌, List, length, get_or, drop, Ok, Err, Result, IfOk, MatchResult, sym, ap, ◌∙◌, arith}
+use Rattle.std.proofs.Common.{◌≡◌, ℕ, ◌+◌, ◌-◌, ◌<◌, List, length, get_or, drop, Ok, Err, Result, IfOk, sym, ap, ◌∙◌, arith}
 use Rattle.std.proofs.lemmas.List.{at_drop_more, at_drop_all}
 use Rattle.card.specs.Cards.{Card}
-use Rattle.card.specs.declared.states.FinishedCard.{FinishedCard}
 use Rattle.card_text.specs.declared.fault.TextFault.{TextFault}
 use Rattle.card_text.specs.Sayings.{card_says, text_says}
 use Rattle.card_text.specs.Lines.{lines_of, trimmed}
@@ -16,34 +15,23 @@ pub record Left (bytes : List ℕ) (i n : ℕ) (d : Stage) : Type 0 where
 
 module _ (bytes line : List ℕ) (i n : ℕ) (d : Stage) (inside : i < length (lines_of bytes)) (is : line ≡ get_or (lines_of bytes) i line) (l : Left bytes i n d) where
   next_read : on_ok (in_line (n + 1) (line_read d (trimmed line))) (λ e. lines_read e (i + 1 + 1) (drop (i + 1) (lines_of bytes))) ≡ read_text_lem bytes
-  next_read =
-      let rest = drop (i + 1) (lines_of bytes) in
-      ap (λ (m : ℕ). on_ok (in_line (m + 1) (line_read d (trimmed line))) (λ e. lines_read e (i + 1 + 1) rest)) l.counted
-      ∙ ap (λ (x : List ℕ). on_ok (in_line (i + 1) (line_read d (trimmed x))) (λ e. lines_read e (i + 1 + 1) rest)) is
-      ∙ sym (at_drop_more (lines_read d (i + 1)) (lines_of bytes) i line inside) ∙ l.reads
+  next_read = rw (l.counted, is) (sym (at_drop_more (lines_read d (i + 1)) (lines_of bytes) i line inside) ∙ l.reads)
 
   -- the next line leads to stage e
   pub left_more : (e : Stage) → Ok e ≡ in_line (n + 1) (line_read d (trimmed line)) → Left bytes (i + 1) (n + 1) e
-  left_more e ok = record {
-    counted = omega (arith, l.counted);
-    reads = ap (λ (r : Result Stage TextFault). on_ok r (λ q. lines_read q (i + 1 + 1) (drop (i + 1) (lines_of bytes)))) ok ∙ next_read;
-  }
+  left_more e ok = record { counted = omega (arith, l.counted); reads = rw (sym ok) at next_read }
 
   -- the next line has a fault, which ends the reading
   pub left_fault : (f : TextFault) → Err f ≡ in_line (n + 1) (line_read d (trimmed line)) → Err f ≡ read_text_lem bytes
-  left_fault f bad = ap (λ (r : Result Stage TextFault). on_ok r (λ q. lines_read q (i + 1 + 1) (drop (i + 1) (lines_of bytes)))) bad ∙ next_read
+  left_fault f bad = rw (sym bad) at next_read
 
 -- no line is left
 pub left_none : (bytes : List ℕ) (i n : ℕ) (d : Stage) → i ≡ length (lines_of bytes) → Left bytes i n d → in_line n (finished d) ≡ read_text_lem bytes
 left_none bytes i n d all l =
     let last : n ≡ i + 1 - 1 = omega (arith, l.counted) in
-    ap (λ (m : ℕ). in_line m (finished d)) last ∙ sym (at_drop_all (lines_read d (i + 1)) (lines_of bytes) i (omega (arith, all))) ∙ l.reads
-
--- r is a card, or the fault, that the reading x gives
-abbrev pub Described : Result FinishedCard TextFault → Result Card TextFault → Type 0
-Described r x = MatchResult r (λ k. Ok k ≡ x) (λ e. Err e ≡ x)
+    rw last (sym (at_drop_all (lines_read d (i + 1)) (lines_of bytes) i (omega (arith, all))) ∙ l.reads)
 
 -- a card that a text is read as says what the text does
-pub says_described : (bytes : List ℕ) (r : Result FinishedCard TextFault) → Described r (read_text_lem bytes) → IfOk r (λ k. text_says bytes ≡ card_says k)
+pub says_described : (bytes : List ℕ) (r : Result Card TextFault) → r ≡ read_text_lem bytes → IfOk r (λ k. text_says bytes ≡ card_says k)
 says_described bytes (Ok k) h = text_says-read bytes k (sym h)
 says_described bytes (Err f) h = tt

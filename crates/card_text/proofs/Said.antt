@@ -15,9 +15,6 @@ use Rattle.card_text.specs.Lines.{binary_row, decimal_of_lem, first_odd_lem, key
 use Rattle.card_text.specs.Drafts.{Stage, unset, taking, entry_read, in_line, line_read, lines_read, on_ok, rank, read_text_lem, started, told}
 use Rattle.card_text.specs.Sayings.{Saying, length_is, row_is, card_says, length_said, line_says, lines_say, said, text_says}
 
-no_ok : {A E : Type 0} (e : E) (a : A) → ◌≡◌ {A = Result A E} (Err e) (Ok a) → ⊥
-no_ok e a h = let z : ◌≡◌ {A = ℕ} 0 1 = cc in omega arith
-
 -- ---- what stages keep
 
 -- no section after the open one has rows
@@ -55,30 +52,9 @@ later_pushed Coset k row l = l
 -- a row more in the open section is said last
 says_pushed : (s : Section) (k : Card) (row : ℕ) → Later s k → card_says (pushed k s row) ≡ card_says k ++ row_is s row ∷ []
 unfolding Later
-says_pushed Group k row (t, c) =
-    let g = map (row_is Group) k.group in
-    let none : map (row_is Transform) k.transform ++ map (row_is Coset) k.coset ≡ [] =
-    ap₂ (λ (x y : List ℕ). map (row_is Transform) x ++ map (row_is Coset) y) t c in
-    ap₂ (λ (x y : List Saying). length_is k.len ∷ (x ++ y)) (map_push (row_is Group) k.group row) none
-    ∙ ap (λ (x : List Saying). length_is k.len ∷ x) (append-nil (g ++ row_is Group row ∷ []))
-    ∙ sym (ap (λ (y : List Saying). length_is k.len ∷ ((g ++ y) ++ row_is Group row ∷ [])) none ∙ ap (λ (y : List Saying). length_is k.len ∷ (y ++ row_is Group row ∷ [])) (append-nil g))
-says_pushed Transform k row c =
-    let g = map (row_is Group) k.group in
-    let t = map (row_is Transform) k.transform in
-    let x = row_is Transform row ∷ [] in
-    let none : map (row_is Coset) k.coset ≡ [] = ap (map (row_is Coset)) c in
-    ap₂ (λ (y z : List Saying). length_is k.len ∷ (g ++ (y ++ z))) (map_push (row_is Transform) k.transform row) none
-    ∙ ap (λ (y : List Saying). length_is k.len ∷ (g ++ y)) (append-nil (t ++ x))
-    ∙ sym (ap (λ (z : List Saying). length_is k.len ∷ ((g ++ (t ++ z)) ++ x)) none
-    ∙ ap (λ (y : List Saying). length_is k.len ∷ ((g ++ y) ++ x)) (append-nil t)
-    ∙ ap (λ (y : List Saying). length_is k.len ∷ y) (append_assoc g t x))
-says_pushed Coset k row _ =
-    let g = map (row_is Group) k.group in
-    let t = map (row_is Transform) k.transform in
-    let c = map (row_is Coset) k.coset in
-    let x = row_is Coset row ∷ [] in
-    ap (λ (z : List Saying). length_is k.len ∷ (g ++ (t ++ z))) (map_push (row_is Coset) k.coset row)
-    ∙ sym (ap (λ (y : List Saying). length_is k.len ∷ y) (append_assoc g (t ++ c) x ∙ ap (λ (y : List Saying). g ++ y) (append_assoc t c x)))
+says_pushed Group k row (t, c) = simp (t, c, map_push, append-nil)
+says_pushed Transform k row c = simp (c, map_push, append-nil, append_assoc)
+says_pushed Coset k row _ = simp (map_push, append_assoc)
 
 -- ---- one line
 
@@ -92,10 +68,10 @@ unfolding Sound Later stage_says
 starts_if true n e h =
     let is : taking n Group (blank n) ≡ e = cc in
     subst (λ (q : Stage). Goes unset q (length_is n ∷ [])) is (record { says = refl; sound = (refl, refl) })
-starts_if false n e h = absurd (no_ok (Refused LengthOutOfRange) e h)
+starts_if false n e h = cc
 
 starts : (o : Option ℕ) (e : Stage) → started o ≡ Ok e → Goes unset e (length_said o)
-starts None e h = absurd (no_ok _ e h)
+starts None e h = cc
 starts (Some n) e h = starts_if (leb 1 n && leb n 64) n e h
 
 module _ (n : ℕ) (o s : Section) (k : Card) (e : Stage) (rest : List ℕ) where
@@ -112,30 +88,30 @@ module _ (n : ℕ) (o s : Section) (k : Card) (e : Stage) (rest : List ℕ) wher
       let row = row_of rest in
       let is : taking n s (pushed k s row) ≡ e = cc in
       subst (λ (q : Stage). Goes (taking n o k) q (row_is s row ∷ [])) is (record { says = says_pushed s k row l; sound = later_pushed s k row l })
-  told_goes (Err x) l h = absurd (no_ok (Refused x) e h)
+  told_goes (Err x) l h = cc
 
   binary_goes : (f : Option ℕ) → Later s k → on_ok (binary_row s f rest) give ≡ Ok e → Taken
   unfolding give
   binary_goes None l h = told_goes (verdict k s (row_of rest)) l h
-  binary_goes (Some p) l h = absurd (no_ok _ e h)
+  binary_goes (Some p) l h = cc
 
   count_goes : (b : Bool) → Later s k → on_ok (cond b (binary_row s (first_odd_lem 0 rest) rest) (Err (DigitCount s (length rest) n))) give ≡ Ok e → Taken
   unfolding give
   count_goes true l h = binary_goes (first_odd_lem 0 rest) l h
-  count_goes false l h = absurd (no_ok _ e h)
+  count_goes false l h = cc
 
   order_goes : (b : Bool) → ltb (rank s) (rank o) ≡ b → Later o k → on_ok (cond b (Err (SectionClosed s)) (Ok s)) (λ _. on_ok (row_read n s rest) give) ≡ Ok e → Taken
   unfolding give
-  order_goes true c l h = absurd (no_ok _ e h)
+  order_goes true c l h = cc
   order_goes false c l h = count_goes (eqb (length rest) n) (later_moved o s k (ltb-false (rank s) (rank o) c) l) h
 
 entry_goes : (q : Keyword) (d e : Stage) (rest : List ℕ) → Sound d → entry_read q d rest ≡ Ok e → Goes d e (said q rest)
 unfolding Sound give Taken
 entry_goes Length unset e rest l h = starts (decimal_of_lem rest) e h
-entry_goes Length (taking n o k) e rest l h = absurd (no_ok _ e h)
-entry_goes (Row s) unset e rest l h = absurd (no_ok _ e h)
+entry_goes Length (taking n o k) e rest l h = cc
+entry_goes (Row s) unset e rest l h = cc
 entry_goes (Row s) (taking n o k) e rest l h = order_goes n o s k e rest (ltb (rank s) (rank o)) refl l h
-entry_goes Unknown d e rest l h = absurd (no_ok _ e h)
+entry_goes Unknown d e rest l h = cc
 
 line_goes : (b : Bool) (q : Keyword) (d e : Stage) (rest : List ℕ) → Sound d → cond b (Ok d) (entry_read q d rest) ≡ Ok e → Goes d e (cond b [] (said q rest))
 line_goes true q d e rest l h =
@@ -153,11 +129,11 @@ module _ (d : Stage) (i : ℕ) (line : List ℕ) (lines : List (List ℕ)) (k : 
       let g = line_goes (passed_over line) (keyword_of_lem (take (word_length_lem line) line)) d e (drop (word_length_lem line + 1) line) sound is in
       sym (append_assoc (stage_says d) (line_says line) (lines_say lines))
       ∙ ap (λ (x : List Saying). x ++ lines_say lines) (sym g.says) ∙ more e g.sound h
-  one_says (Err p) is h more = absurd (no_ok _ k h)
+  one_says (Err p) is h more = cc
 
 lines_say-read : (lines : List (List ℕ)) (d : Stage) (i : ℕ) (k : Card) → Sound d → lines_read d i lines ≡ Ok k → stage_says d ++ lines_say lines ≡ card_says k
 unfolding stage_says
-lines_say-read [] unset i k l h = absurd (no_ok _ k h)
+lines_say-read [] unset i k l h = cc
 lines_say-read [] (taking n o q) i k l h =
     let is : q ≡ k = cc in
     append-nil (card_says q) ∙ ap card_says is

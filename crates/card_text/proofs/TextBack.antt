@@ -5,6 +5,7 @@ use Rattle.std.proofs.lemmas.List.{append-nil, get_or_past}
 use Rattle.std.proofs.lemmas.List.Elements.{All-from_get_or}
 use Rattle.std.proofs.lemmas.List.Splits.{slice_split_at}
 use Rattle.std.specs.List.{All}
+use Rattle.std.proofs.lemmas.Bool.Decides.{nat_tests}
 use Rattle.std.proofs.lemmas.Bool.{and_from, and_parts, cases_lt, eq-eqb, le-leb, le-ltb, lt-ltb, ltb-true, ne_eqb}
 use Rattle.code.specs.declared.refusal.Section.{Section}
 use Rattle.code.specs.declared.refusal.Section.TheVariants.{Group, Transform, Coset}
@@ -32,15 +33,13 @@ plain (b ∷ bs) = ltb 13 b && plain bs
 plain-append : (xs ys : List ℕ) → plain xs ≡ true → plain ys ≡ true → plain (xs ++ ys) ≡ true
 unfolding plain
 plain-append [] ys p q = q
-plain-append (x ∷ xs) ys p q =
-    let (a, b) = and_parts (ltb 13 x) (plain xs) p in
-    and_from (ltb 13 x) (plain (xs ++ ys)) a (plain-append xs ys b q)
+plain-append (x ∷ xs) ys p q = grind (arith, nat_tests, plain-append xs ys)
 
 plain_at : (line : List ℕ) (i : ℕ) → plain line ≡ true → i < length line → 13 < get_or line i 0
 unfolding plain
 plain_at [] i p h = absurd (omega arith)
-plain_at (b ∷ bs) zero p h = ltb-true 13 b (and_parts (ltb 13 b) (plain bs) p).0
-plain_at (b ∷ bs) (suc i) p h = plain_at bs i (and_parts (ltb 13 b) (plain bs) p).1 (omega arith)
+plain_at (b ∷ bs) zero p h = grind (arith, nat_tests)
+plain_at (b ∷ bs) (suc i) p h = grind (arith, nat_tests, plain_at bs i)
 
 plain-trimmed : (line : List ℕ) → plain line ≡ true → trimmed line ≡ line
 plain-trimmed line p =
@@ -61,25 +60,18 @@ plain_lines line rest p = slice_split_at (λ b. eqb b 10) line 10 rest (plain_al
 read_one : (d e : Stage) (i : ℕ) (line rest : List ℕ) → plain line ≡ true → line_read d line ≡ Ok e
     → lines_read d i (lines_of (line ++ 10 ∷ rest)) ≡ lines_read e (i + 1) (lines_of rest)
 read_one d e i line rest p ok =
-    let next : Stage → Result Card TextFault = λ q. lines_read q (i + 1) (lines_of rest) in
-    ap (lines_read d i) (plain_lines line rest p)
-    ∙ ap (λ (l : List ℕ). on_ok (in_line i (line_read d l)) next) (plain-trimmed line p)
-    ∙ ap (λ (r : Result Stage Problem). on_ok (in_line i r) next) ok
+    ap (lines_read d i) (plain_lines line rest p) ∙ simp (plain-trimmed line p, ok)
 
 -- ---- digits
 
 digits_plain : (n row : ℕ) → plain (digits_of n row) ≡ true
 unfolding plain
 digits_plain zero row = refl
-digits_plain (suc n) row =
-    and_from (ltb 13 (48 + row % 2)) (plain (digits_of n (row / 2))) (lt-ltb 13 (48 + row % 2) (omega arith)) (digits_plain n (row / 2))
+digits_plain (suc n) row = grind (arith, nat_tests, digits_plain n (row / 2))
 
 digits_binary : (n row i : ℕ) → first_odd_lem i (digits_of n row) ≡ None
 digits_binary zero row i = refl
-digits_binary (suc n) row i =
-    let b : is_binary_lem (48 + row % 2) ≡ true =
-    and_from (leb 48 (48 + row % 2)) (leb (48 + row % 2) 49) (le-leb 48 (48 + row % 2) (omega arith)) (le-leb (48 + row % 2) 49 (omega arith)) in
-    ap (λ (t : Bool). cond t (first_odd_lem (i + 1) (digits_of n (row / 2))) (Some i)) b ∙ digits_binary n (row / 2) (i + 1)
+digits_binary (suc n) row i = grind (arith, nat_tests, digits_binary n (row / 2) (i + 1))
 
 digits_row : (n row : ℕ) → row < 2 ^ n → row_of (digits_of n row) ≡ row
 digits_row zero row h = omega arith
@@ -89,11 +81,7 @@ digits_row (suc n) row h =
 
 row_back : (n : ℕ) (s : Section) (row : ℕ) → row < 2 ^ n → row_read n s (digits_of n row) ≡ Ok row
 row_back n s row h =
-    let ds = digits_of n row in
-    let full : eqb (length ds) n ≡ true = eq-eqb (length ds) n (digits_length n row) in
-    ap (λ (t : Bool). cond t (binary_row s (first_odd_lem 0 ds) ds) (Err (DigitCount s (length ds) n))) full
-    ∙ ap (λ (o : Option ℕ). binary_row s o ds) (digits_binary n row 0)
-    ∙ ap (λ (r : ℕ). Ok r) (digits_row n row h)
+    simp (eq-eqb (length (digits_of n row)) n (digits_length n row), digits_binary n row 0, digits_row n row h)
 
 -- ---- a line of a row
 
@@ -111,11 +99,7 @@ label_read Coset d ds = refl
 row_added_ok : (n : ℕ) (s o : Section) (k : Card) (row : ℕ) → rank o ≤ rank s → row < 2 ^ n → Ok tt ≡ verdict k s row
     → row_added s (taking n o k) (digits_of n row) ≡ Ok (taking n s (pushed k s row))
 row_added_ok n s o k row le h v =
-    let ds = digits_of n row in
-    let give : ℕ → Result Stage Problem = λ r. told (verdict k s r) n s k r in
-    ap (λ (t : Bool). on_ok (cond t (Err (SectionClosed s)) (Ok s)) (λ _. on_ok (row_read n s ds) give)) (le-ltb (rank s) (rank o) le)
-    ∙ ap (λ (r : Result ℕ Problem). on_ok r give) (row_back n s row h)
-    ∙ ap (λ (r : Result (Unit {0}) Refusal). told r n s k row) (sym v)
+    simp (le-ltb (rank s) (rank o) le, row_back n s row h, sym v)
 
 row_line-append : (n : ℕ) (s : Section) (row : ℕ) (rest : List ℕ) → row_line s n row ++ rest ≡ (label_of s ++ digits_of n row) ++ 10 ∷ rest
 row_line-append n s row rest = simp append_assoc
@@ -136,8 +120,8 @@ section_back : (n : ℕ) (s : Section) (rows : List ℕ) (o : Section) (k : Card
     ≡ lines_read (taking n (last_open o s rows) (with_rows k s rows)) (i + length rows) (lines_of rest)
 unfolding last_open accepts with_rows
 section_back n s [] o k i rest le w h =
-    let e : i ≡ i + 0 = omega arith in
-    ap (λ (m : ℕ). lines_read (taking n o k) m (lines_of rest)) e
+    let e : i + 0 ≡ i = omega arith in
+    rw e
 section_back n s (r ∷ rs) o k i rest le w (v, small, h) =
     let line = label_of s ++ digits_of n r in
     let more = section_text s n rs ++ rest in
@@ -154,34 +138,29 @@ decimal_plain : (n : ℕ) → plain (decimal_text n) ≡ true
 unfolding plain
 decimal_plain n =
     elim (ltb n 10) as (λ (b : Bool). plain (cond b ((48 + n) ∷ []) ((48 + n / 10) ∷ (48 + n % 10) ∷ [])) ≡ true) [
-      | true ↦ and_from (ltb 13 (48 + n)) true (lt-ltb 13 (48 + n) (omega arith)) refl
-      | false ↦ and_from (ltb 13 (48 + n / 10)) (ltb 13 (48 + n % 10) && true) (lt-ltb 13 (48 + n / 10) (omega arith)) (and_from (ltb 13 (48 + n % 10)) true (lt-ltb 13 (48 + n % 10) (omega arith)) refl)
+      | true ↦ grind (arith, nat_tests)
+      | false ↦ grind (arith, nat_tests)
     ]
 
 digit_is_decimal : (d : ℕ) → d < 10 → (leb 48 (48 + d) && leb (48 + d) 57) ≡ true
-digit_is_decimal d h = and_from (leb 48 (48 + d)) (leb (48 + d) 57) (le-leb 48 (48 + d) (omega arith)) (le-leb (48 + d) 57 (omega arith))
+digit_is_decimal d h = grind (arith, nat_tests)
 
 decimal_back : (n : ℕ) → n < 100 → decimal_of_lem (decimal_text n) ≡ Some n
 decimal_back n h =
     elim (cases_lt n 10) [
       | inl l ↦
           let one : 48 + n - 48 ≡ n = omega arith in
-          ap (λ (t : Bool). decimal_of_lem (cond t ((48 + n) ∷ []) ((48 + n / 10) ∷ (48 + n % 10) ∷ []))) (lt-ltb n 10 l)
-          ∙ ap (λ (t : Bool). cond t (Some (48 + n - 48)) None) (digit_is_decimal n l)
-          ∙ ap (λ (m : ℕ). Some m) one
+          simp (lt-ltb n 10 l, digit_is_decimal n l, one)
       | inr l ↦
           let two : 10 * (48 + n / 10 - 48) + (48 + n % 10 - 48) ≡ n = omega (arith, div-add-mod' n 10) in
           let small : n / 10 < 10 = omega arith in
           let last : n % 10 < 10 = omega arith in
-          ap (λ (t : Bool). decimal_of_lem (cond t ((48 + n) ∷ []) ((48 + n / 10) ∷ (48 + n % 10) ∷ []))) (le-ltb n 10 l)
-          ∙ ap₂ (λ (t u : Bool). cond (t && u) (Some (10 * (48 + n / 10 - 48) + (48 + n % 10 - 48))) None) (digit_is_decimal (n / 10) small) (digit_is_decimal (n % 10) last)
-          ∙ ap (λ (m : ℕ). Some m) two
+          simp (le-ltb n 10 l, digit_is_decimal (n / 10) small, digit_is_decimal (n % 10) last, two)
     ]
 
 length_back : (n : ℕ) → Length n → line_read unset (codes "length " ++ decimal_text n) ≡ Ok (taking n Group (blank n))
 length_back n (lo, hi) =
-    ap started (decimal_back n (omega arith))
-    ∙ ap₂ (λ (x y : Bool). cond (x && y) (Ok (taking n Group (blank n))) (Err (Refused LengthOutOfRange))) (le-leb 1 n lo) (le-leb n 64 hi)
+    ap started (decimal_back n (omega arith)) ∙ simp (le-leb 1 n lo, le-leb n 64 hi)
 
 length_line-append : (n : ℕ) (rest : List ℕ) → length_line n ++ rest ≡ (codes "length " ++ decimal_text n) ++ 10 ∷ rest
 length_line-append n rest = simp append_assoc

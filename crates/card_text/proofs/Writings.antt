@@ -32,8 +32,7 @@ over_part at end part bytes old e f =
 -- one piece after another
 pub over_then : (at d : ℕ) (xs ys E o₁ o₂ : List ℕ) → at + length xs ≤ length E → d ≡ at + length xs → o₁ ≡ over at xs E → o₂ ≡ over d ys o₁
     → o₂ ≡ over at (xs ++ ys) E
-over_then at d xs ys E o₁ o₂ h ed e₁ e₂ =
-    e₂ ∙ ap₂ (λ (m : ℕ) (o : List ℕ). over m ys o) ed e₁ ∙ over-over at xs ys E h
+over_then at d xs ys E o₁ o₂ h ed e₁ e₂ = e₂ ∙ rw (ed, e₁) (over-over at xs ys E h)
 
 pub over_three : (at d e : ℕ) (xs ys zs E o₁ o₂ o₃ : List ℕ) → at + length xs + length ys ≤ length E → d ≡ at + length xs → e ≡ d + length ys
     → o₁ ≡ over at xs E → o₂ ≡ over d ys o₁ → o₃ ≡ over e zs o₂ → o₃ ≡ over at (xs ++ (ys ++ zs)) E
@@ -45,7 +44,7 @@ over_three at d e xs ys zs E o₁ o₂ o₃ h ed ee e₁ e₂ e₃ =
 pub over_none : (at : ℕ) (old : List ℕ) → over at [] old ≡ old
 over_none at old =
     let z : at + 0 ≡ at = omega arith in
-    ap (λ (m : ℕ). take at old ++ drop m old) z ∙ take-append-drop at old
+    rw z (take-append-drop at old)
 
 pub over_all : (bytes old : List ℕ) → length bytes ≡ length old → over 0 bytes old ≡ bytes
 over_all bytes old e = ap (λ (l : List ℕ). bytes ++ l) (drop_all (0 + length bytes) old (omega (arith, e))) ∙ append-nil bytes
@@ -66,14 +65,7 @@ digits_step p n rest out done some room h =
     let b = 48 + rest % 2 in
     let ds = digits_of (n - (p + 1)) (rest / 2) in
     let less : n - p ≡ suc (n - (p + 1)) = omega arith in
-    ap (over (p + 1) ds) (over-set p b out (omega arith))
-    ∙ over-over p (b ∷ []) ds out (omega arith)
-    ∙ sym (ap (λ (m : ℕ). over p (digits_of m rest) out) less) ∙ h
-
-pub digits_done : (p n rest : ℕ) (out done : List ℕ) → n ≤ p → over p (digits_of (n - p) rest) out ≡ done → out ≡ done
-digits_done p n rest out done none h =
-    let zero-left : n - p ≡ 0 = omega arith in
-    sym (over_none p out) ∙ sym (ap (λ (m : ℕ). over p (digits_of m rest) out) zero-left) ∙ h
+    ap (over (p + 1) ds) (over-set p b out (omega arith)) ∙ over-over p (b ∷ []) ds out (omega arith) ∙ rw less at h
 
 -- ---- rows
 
@@ -117,8 +109,7 @@ rows_step s n rows i p q stop out next done h room l eq en =
 
 pub rows_done : (s : Section) (n : ℕ) (rows : List ℕ) (p stop : ℕ) (out done : List ℕ) → rows ≡ [] → RowsLeft s n rows p stop out done → (p ≡ stop) × (out ≡ done)
 rows_done s n rows p stop out done none l =
-    let e = ap (λ (rs : List ℕ). length (section_text s n rs)) none in
-    (omega (arith, l.ends, e), sym (over_none p out) ∙ sym (ap (λ (rs : List ℕ). over p (section_text s n rs) out) none) ∙ l.writes)
+    (omega (arith, rw none at l.ends), sym (over_none p out) ∙ rw none at l.writes)
 
 -- ---- the length
 

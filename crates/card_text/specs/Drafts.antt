@@ -6,10 +6,8 @@ use Rattle.code.specs.declared.refusal.Refusal.{Refusal}
 use Rattle.code.specs.declared.refusal.Refusal.TheVariants.{LengthOutOfRange}
 use Rattle.code.specs.Limits.{max_places}
 use Rattle.card.specs.Cards.{Card, blank, pushed, verdict}
-use Rattle.card_text.specs.declared.draft.Draft.{Draft}
-use Rattle.card_text.specs.declared.draft.Draft.TheVariants.{Unset, Open}
-use Rattle.card_text.specs.declared.draft.OpenCard.{OpenCard}
-use Rattle.card_text.specs.declared.draft.OpenCard.TheVariants.{InGroup, InTransform, InCoset}
+use Rattle.card.specs.declared.open.OpenCard.{OpenCard}
+use Rattle.card.specs.OpenCards.{open_of, shown}
 use Rattle.card_text.specs.declared.fault.Problem.{Problem}
 use Rattle.card_text.specs.declared.fault.Problem.TheVariants.{UnknownKeyword, LengthMissing, LengthAgain, LengthNotDecimal, SectionClosed, Refused}
 use Rattle.card_text.specs.declared.fault.TextFault.{TextFault}
@@ -100,18 +98,8 @@ abbrev pub refilled : Result Card TextFault → Card → Card
 refilled (Ok k) old = k
 refilled (Err _) old = old
 
--- ---- what the code's values stand for
+-- ---- what a length and a card in the making stand for
 
-abbrev pub open_of : OpenCard → Section
-open_of (InGroup k) = Group
-open_of (InTransform k) = Transform
-open_of (InCoset k) = Coset
-
-abbrev pub shown_of : OpenCard → Card
-shown_of (InGroup k) = k
-shown_of (InTransform k) = k
-shown_of (InCoset k) = k
-
-abbrev pub stage_of : Draft → Stage
-stage_of Unset = unset
-stage_of (Open len k) = taking len (open_of k) (shown_of k)
+abbrev pub stage_of : Option (ℕ × OpenCard) → Stage
+stage_of None = unset
+stage_of (Some (n, k)) = taking n (open_of k) (shown k)

@@ -1,118 +1,92 @@
 // The card that the lines of a text have described so far.
 ghost use Rattle.std.specs.Prelude.{◌≡◌, Ok, Err, MatchResult};
-ghost use Rattle.card.specs.Cards.{pushed, verdict};
-ghost use Rattle.card_text.specs.Lines.{decimal_of_lem};
-ghost use Rattle.card_text.specs.Drafts.{finished, length_read, open_of, reopened, row_added, shown_of, stage_of, started};
+ghost use Rattle.card.specs.OpenCards.{open_of, shown};
+ghost use Rattle.card_text.specs.Drafts.{unset, finished, length_read, reopened, row_added, started};
 
 use crate::fault::Problem;
 use crate::line::{decimal_of, read_row};
-use card::states::{CosetCard, FinishedCard, GroupCard, TransformCard};
+use card::open::{AnyCard, OpenCard};
+use card::states::FinishedCard;
 use code::length::WordLength;
-use code::refusal::{Refusal, Section};
+use code::refusal::Section;
+use std::marker::Model;
 
-// A card that takes rows, in one of its three states.
+// What the lines so far have given: nothing, or a length and a card of that length. A card that takes rows does not tell
+// its length, so that is kept beside the card.
 #[derive(Drop)]
-pub(crate) enum OpenCard {
-    InGroup(GroupCard),
-    InTransform(TransformCard),
-    InCoset(CosetCard),
+pub(crate) struct Draft {
+    given: Option<(WordLength, OpenCard)>,
 }
 
-// What the lines so far say: nothing yet, or a length and a card of that length.
-#[derive(Drop)]
-pub(crate) enum Draft {
-    Unset,
-    Open(WordLength, OpenCard),
+impl Model for Draft {
+    ghost use Rattle.card_text.specs.Drafts.{Stage, stage_of};
+
+    ghost Value = { Stage };
+
+    ghost view = { λ d. stage_of d.given };
 }
 
-// The draft after a line that gives the length.
-pub(crate) fn set_length(draft: Draft, digits: &[u8]) -> Result<Draft, Problem>
-    ensures { MatchResult result (λ d. Ok (stage_of d) ≡ length_read (stage_of draft) digits.now) (λ e. Err e ≡ length_read (stage_of draft) digits.now) }
-{
-    match draft {
-        Draft::Open(_, _) => Err(Problem::LengthAgain),
-        Draft::Unset => start(decimal_of(digits)),
+impl Draft {
+    // The draft before the first line.
+    pub(crate) fn new() -> Draft
+        ensures { result ≡ unset }
+    {
+        Draft { given: None }
+    }
+
+    // The draft after a line that gives the length.
+    pub(crate) fn set_length(self, digits: &[u8]) -> Result<Draft, Problem>
+        ensures { result ≡ length_read self digits.now }
+    {
+        if self.given.is_some() {
+            return Err(Problem::LengthAgain);
+        }
+        start(decimal_of(digits))
+    }
+
+    // The draft after a line that gives a row.
+    pub(crate) fn add_row(self, section: Section, digits: &[u8]) -> Result<Draft, Problem>
+        ensures { result ≡ row_added section self digits.now }
+    {
+        let (length, card) = self.given.ok_or(Problem::LengthMissing)?;
+        let mut card = move_to(card, section)?;
+        let row = read_row(length, section, digits)?;
+        card.add_row(row)?;
+        Ok(Draft {
+            given: Some((length, card)),
+        })
+    }
+
+    // The card that the draft describes, taking no more rows.
+    pub(crate) fn finish(self) -> Result<FinishedCard, Problem>
+        ensures { result ≡ finished self }
+    {
+        let (_, card) = self.given.ok_or(Problem::LengthMissing)?;
+        Ok(card.finish())
     }
 }
 
 // The draft of a length, with no rows.
 fn start(number: Option<usize>) -> Result<Draft, Problem>
-    ensures { MatchResult result (λ d. Ok (stage_of d) ≡ started number) (λ e. Err e ≡ started number) }
+    ensures { result ≡ started number }
 {
     let places = number.ok_or(Problem::LengthNotDecimal)?;
     let length = WordLength::new(places)?;
-    Ok(Draft::Open(length, OpenCard::InGroup(GroupCard::new(length))))
-}
-
-// The draft after a line that gives a row.
-pub(crate) fn add_row(draft: Draft, section: Section, digits: &[u8]) -> Result<Draft, Problem>
-    ensures { MatchResult result (λ d. Ok (stage_of d) ≡ row_added section (stage_of draft) digits.now) (λ e. Err e ≡ row_added section (stage_of draft) digits.now) }
-{
-    let Draft::Open(length, card) = draft else {
-        return Err(Problem::LengthMissing);
-    };
-    let open = move_to(card, section)?;
-    let row = read_row(length, section, digits)?;
-    let next = take_row(open, row)?;
-    Ok(Draft::Open(length, next))
+    Ok(Draft {
+        given: Some((length, OpenCard::new(length))),
+    })
 }
 
 // The same card with that section open, unless the section is closed.
 fn move_to(card: OpenCard, section: Section) -> Result<OpenCard, Problem>
-    ensures { MatchResult result (λ k. (shown_of k ≡ shown_of card) × (open_of k ≡ section) × (Ok section ≡ reopened (open_of card) section)) (λ e. Err e ≡ reopened (open_of card) section) }
+    ensures { MatchResult result (λ k. (shown k ≡ shown card) × (open_of k ≡ section) × (Ok section ≡ reopened (open_of card) section)) (λ e. Err e ≡ reopened (open_of card) section) }
 {
-    match section {
-        Section::Group => match card {
-            OpenCard::InGroup(group) => Ok(OpenCard::InGroup(group)),
-            OpenCard::InTransform(_) => Err(Problem::SectionClosed { section }),
-            OpenCard::InCoset(_) => Err(Problem::SectionClosed { section }),
-        },
-        Section::Transform => match card {
-            OpenCard::InGroup(group) => Ok(OpenCard::InTransform(group.close_group())),
-            OpenCard::InTransform(transform) => Ok(OpenCard::InTransform(transform)),
-            OpenCard::InCoset(_) => Err(Problem::SectionClosed { section }),
-        },
-        Section::Coset => Ok(OpenCard::InCoset(in_coset(card))),
+    let mut open = card;
+    while open.open_section() != section {
+        let AnyCard::Open(next) = open.move_on() else {
+            return Err(Problem::SectionClosed { section });
+        };
+        open = next;
     }
-}
-
-// The same card taking coset rows.
-fn in_coset(card: OpenCard) -> CosetCard
-    ensures { result ≡ shown_of card }
-{
-    match card {
-        OpenCard::InGroup(group) => group.close_group().close_transform(),
-        OpenCard::InTransform(transform) => transform.close_transform(),
-        OpenCard::InCoset(coset) => coset,
-    }
-}
-
-// The card with a row more in its open section, or the card's refusal.
-fn take_row(card: OpenCard, row: u64) -> Result<OpenCard, Refusal>
-    ensures { MatchResult result (λ k. (shown_of k ≡ pushed (shown_of card) (open_of card) row) × (open_of k ≡ open_of card) × (Ok tt ≡ verdict (shown_of card) (open_of card) row)) (λ e. Err e ≡ verdict (shown_of card) (open_of card) row) }
-{
-    match card {
-        OpenCard::InGroup(mut group) => {
-            group.add_row(row)?;
-            Ok(OpenCard::InGroup(group))
-        }
-        OpenCard::InTransform(mut transform) => {
-            transform.add_row(row)?;
-            Ok(OpenCard::InTransform(transform))
-        }
-        OpenCard::InCoset(mut coset) => {
-            coset.add_row(row)?;
-            Ok(OpenCard::InCoset(coset))
-        }
-    }
-}
-
-// The card that a draft describes, taking no more rows.
-pub(crate) fn finish(draft: Draft) -> Result<FinishedCard, Problem>
-    ensures { MatchResult result (λ k. Ok k ≡ finished (stage_of draft)) (λ e. Err e ≡ finished (stage_of draft)) }
-{
-    let Draft::Open(_, card) = draft else {
-        return Err(Problem::LengthMissing);
-    };
-    Ok(in_coset(card).finish())
+    Ok(open)
 }

@@ -1,5 +1,4 @@
 ghost use Rattle.std.specs.Prelude.{◌≡◌, ◌+◌, ◌<◌, ◌≤◌, [], ◌∷◌, ◌++◌, length, take, IfOk, Ok};
-ghost use Rattle.code.specs.Limits.{max_places};
 ghost use Rattle.card.specs.Cards.{max_section_rows};
 ghost use Rattle.card_file.specs.Files.{overwritten, wrote};
 ghost use Rattle.card_text.specs.Drafts.{read_text_lem};
@@ -7,6 +6,7 @@ ghost use Rattle.card_text.specs.Texts.{decimal_text, digits_of, length_line, ov
 
 use crate::line::{LENGTH, SPACE, ZERO, word_of};
 use card::states::FinishedCard;
+use code::length::WordLength;
 use code::refusal::{Refusal, Section};
 
 // The number from which on a decimal has two digits.
@@ -34,42 +34,41 @@ fn write_lines(card: &FinishedCard, out: &mut [u8]) -> Result<usize, Refusal>
     ensures bytes { out.new ≡ overwritten (text_of card.now) out.old }
     ensures back { IfOk result (λ end. read_text_lem (take end out.new) ≡ Ok card.now) }
 {
-    let places = card.word_length().places();
+    let len = card.word_length();
     let group = card.section_rows(Section::Group);
     let transform = card.section_rows(Section::Transform);
     let coset = card.section_rows(Section::Coset);
-    let rows = rows_size(Section::Group, places, group)
-        + rows_size(Section::Transform, places, transform)
-        + rows_size(Section::Coset, places, coset);
-    if out.len() < length_size(places) + rows {
+    let rows = rows_size(Section::Group, len, group)
+        + rows_size(Section::Transform, len, transform)
+        + rows_size(Section::Coset, len, coset);
+    if out.len() < length_size(len) + rows {
         return Err(Refusal::OutputShort);
     }
-    let after_length = write_length(out, places);
-    let after_group = write_rows(out, after_length, Section::Group, places, group);
-    let after_transform = write_rows(out, after_group, Section::Transform, places, transform);
-    let end = write_rows(out, after_transform, Section::Coset, places, coset);
+    let after_length = write_length(out, len);
+    let after_group = write_rows(out, after_length, Section::Group, len, group);
+    let after_transform = write_rows(out, after_group, Section::Transform, len, transform);
+    let end = write_rows(out, after_transform, Section::Coset, len, coset);
     Ok(end)
 }
 
 // How many bytes the line of the length takes.
-fn length_size(places: usize) -> usize
-    ensures value { result ≡ length (length_line places) }
+fn length_size(len: WordLength) -> usize
+    ensures value { result ≡ length (length_line len) }
     ensures bound { result ≤ 10 }
 {
-    if places < TEN {
+    if len.places() < TEN {
         return SHORT_LENGTH_LINE;
     }
     SHORT_LENGTH_LINE + 1
 }
 
 // How many bytes the lines of a section take.
-fn rows_size(section: Section, places: usize, rows: &[u64]) -> usize
-    requires few { length rows.now ≤ max_section_rows }
-    requires lawful { places ≤ max_places }
-    ensures value { result ≡ length (section_text section places rows.now) }
+fn rows_size(section: Section, len: WordLength, rows: &[u64]) -> usize
+    requires { length rows.now ≤ max_section_rows }
+    ensures value { result ≡ length (section_text section len rows.now) }
     ensures bound { result ≤ 600 }
 {
-    rows.len() * (word_of(section).len() + SPACE_SIZE + places + LINE_END)
+    rows.len() * (word_of(section).len() + SPACE_SIZE + len.places() + LINE_END)
 }
 
 // Writes bytes from `at` on, and tells where they end, as the writers below do too: the memory is lent, and the answer
@@ -95,14 +94,13 @@ fn write_word(out: &mut [u8], at: usize, word: &[u8]) -> usize
 }
 
 // Writes the line of the length at the beginning.
-fn write_length(out: &mut [u8], places: usize) -> usize
-    requires small { places < 100 }
-    requires room { length (length_line places) ≤ length out.old }
-    ensures end { result ≡ length (length_line places) }
-    ensures bytes { out.new ≡ over 0 (length_line places) out.old }
+fn write_length(out: &mut [u8], len: WordLength) -> usize
+    requires { length (length_line len) ≤ length out.old }
+    ensures end { result ≡ length (length_line len) }
+    ensures bytes { out.new ≡ over 0 (length_line len) out.old }
 {
     let word = write_word(out, 0, LENGTH);
-    let number = write_decimal(out, word, places);
+    let number = write_decimal(out, word, len.places());
     write_bytes(out, number, b"\n")
 }
 
@@ -121,36 +119,36 @@ fn write_decimal(out: &mut [u8], at: usize, number: usize) -> usize
 }
 
 // Writes the lines of a section.
-fn write_rows(out: &mut [u8], at: usize, section: Section, places: usize, rows: &[u64]) -> usize
-    requires { at + length (section_text section places rows.now) ≤ length out.old }
-    ensures end { result ≡ at + length (section_text section places rows.now) }
-    ensures bytes { out.new ≡ over at (section_text section places rows.now) out.old }
+fn write_rows(out: &mut [u8], at: usize, section: Section, len: WordLength, rows: &[u64]) -> usize
+    requires { at + length (section_text section len rows.now) ≤ length out.old }
+    ensures end { result ≡ at + length (section_text section len rows.now) }
+    ensures bytes { out.new ≡ over at (section_text section len rows.now) out.old }
 {
     let mut end = at;
     for row in rows {
-        end = write_row(out, end, section, places, *row);
+        end = write_row(out, end, section, len, *row);
     }
     end
 }
 
 // Writes the line of a row.
-fn write_row(out: &mut [u8], at: usize, section: Section, places: usize, row: u64) -> usize
-    requires { at + length (row_line section places row) ≤ length out.old }
-    ensures end { result ≡ at + length (row_line section places row) }
-    ensures bytes { out.new ≡ over at (row_line section places row) out.old }
+fn write_row(out: &mut [u8], at: usize, section: Section, len: WordLength, row: u64) -> usize
+    requires { at + length (row_line section len row) ≤ length out.old }
+    ensures end { result ≡ at + length (row_line section len row) }
+    ensures bytes { out.new ≡ over at (row_line section len row) out.old }
 {
     let word = write_word(out, at, word_of(section));
-    let digits = write_digits(out, word, places, row);
+    let digits = write_digits(out, word, len, row);
     write_bytes(out, digits, b"\n")
 }
 
 // Writes the first digits of a row, place 0 first.
-fn write_digits(out: &mut [u8], at: usize, places: usize, row: u64) -> usize
-    requires { at + length (digits_of places row) ≤ length out.old }
-    ensures end { result ≡ at + length (digits_of places row) }
-    ensures bytes { out.new ≡ over at (digits_of places row) out.old }
+fn write_digits(out: &mut [u8], at: usize, len: WordLength, row: u64) -> usize
+    requires { at + length (digits_of len row) ≤ length out.old }
+    ensures end { result ≡ at + length (digits_of len row) }
+    ensures bytes { out.new ≡ over at (digits_of len row) out.old }
 {
-    let end = at + places;
+    let end = at + len.places();
     fill_digits(&mut out[at..end], row);
     end
 }

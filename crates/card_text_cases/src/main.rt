@@ -1,14 +1,13 @@
 #![tactic(auto)]
 
 // Texts and files of cards: what becomes of each, and what is said of those that are refused.
-mod failure;
 mod files;
 mod texts;
 mod trips;
 
+use anyhow::bail;
 use card_text::convert::{make_file, show_file};
 use card_text::fault::Fault;
-use failure::{Failure, expect};
 use std::fmt;
 
 // More bytes than a file or a text of a card has.
@@ -19,17 +18,17 @@ fn refused<T: fmt::Debug + Drop>(
     rt: &HostRuntime,
     input: T,
     answer: Result<usize, Fault>,
-) -> Result<(), Failure> {
+) -> anyhow::Result<()> {
     let Err(fault) = answer else {
-        return Err(Failure::Differs);
+        bail!("{input:?} is not refused");
     };
     println!(rt; "{input:?}: {fault}")?;
     Ok(())
 }
 
-fn run(rt: &HostRuntime) -> Result<(), Failure> {
+fn run(rt: &HostRuntime) -> anyhow::Result<()> {
     for text in texts::OF_E {
-        expect(trips::is_code_e(text.as_bytes())?)?;
+        trips::expect_code_e(text.as_bytes())?;
     }
     println!(rt;
         "the text of code E, in four forms, is made into the bytes of its file, which are shown as the text"
@@ -38,7 +37,7 @@ fn run(rt: &HostRuntime) -> Result<(), Failure> {
     println!(rt;
         "a card of length 64 with 24 rows: {text} bytes of text, made into the {file} bytes of its file, shown as the same text"
     )?;
-    expect(trips::refuses_short_memory()?)?;
+    trips::expect_short_memory_refused()?;
     println!(rt; "memory that is a byte too short for a text is refused and stays as it was")?;
     for text in texts::REFUSED {
         refused(rt, text, make_file(text.as_bytes(), &mut [0; OUTPUT_SIZE]))?;
@@ -49,6 +48,6 @@ fn run(rt: &HostRuntime) -> Result<(), Failure> {
     Ok(())
 }
 
-fn main(rt: HostRuntime) -> Result<(), Failure> {
+fn main(rt: HostRuntime) -> anyhow::Result<()> {
     run(&rt)
 }

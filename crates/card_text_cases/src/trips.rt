@@ -1,11 +1,10 @@
 // Cards that go from text to file and back.
 use crate::OUTPUT_SIZE;
-use crate::failure::{Failure, expect};
 use crate::texts::OF_E;
+use anyhow::ensure;
 use card::states::{FinishedCard, GroupCard};
 use card_file::write::write_card;
 use card_text::convert::{make_file, show_file};
-use card_text::fault::Fault;
 use card_text::read::read_text;
 use card_text::write::write_text;
 use code::length::WordLength;
@@ -23,13 +22,21 @@ const E_SHORT: usize = 60;
 // The byte that memory is filled with before something is written into it.
 const FILL: u8 = 7;
 
-// Whether a text is made into the file of code E, and that file is shown as the plain text.
-pub(crate) fn is_code_e(text: &[u8]) -> Result<bool, Fault> {
+// A text is made into the file of code E, and that file is shown as the plain text.
+pub(crate) fn expect_code_e(text: &[u8]) -> anyhow::Result<()> {
     let mut file = [FILL; OUTPUT_SIZE];
     let mut shown = [FILL; OUTPUT_SIZE];
     let end = make_file(text, &mut file)?;
     let last = show_file(&file[0..end], &mut shown)?;
-    Ok(&file[0..end] == FILE_OF_E.as_slice() && &shown[0..last] == OF_E[0].as_bytes())
+    ensure!(
+        &file[0..end] == FILE_OF_E.as_slice(),
+        "a text of code E is made into another file"
+    );
+    ensure!(
+        &shown[0..last] == OF_E[0].as_bytes(),
+        "the file of code E is shown as another text"
+    );
+    Ok(())
 }
 
 // A card of length 64 with eight rows in each section, each with one digit.
@@ -50,7 +57,7 @@ fn full() -> Result<FinishedCard, Refusal> {
 }
 
 // How many bytes the text and the file of that card have, which are made of one another.
-pub(crate) fn full_card() -> Result<(usize, usize), Failure> {
+pub(crate) fn full_card() -> anyhow::Result<(usize, usize)> {
     let mut text = [FILL; OUTPUT_SIZE];
     let mut file = [FILL; OUTPUT_SIZE];
     let mut made = [FILL; OUTPUT_SIZE];
@@ -60,18 +67,32 @@ pub(crate) fn full_card() -> Result<(usize, usize), Failure> {
     let file_end = write_card(&card, &mut file)?;
     let made_end = make_file(&text[0..text_end], &mut made)?;
     let shown_end = show_file(&file[0..file_end], &mut shown)?;
-    expect(made_end == file_end && shown_end == text_end)?;
-    expect(&made[0..] == &file[0..] && &shown[0..] == &text[0..])?;
+    ensure!(
+        made_end == file_end && made == file,
+        "the text of a full card is made into another file"
+    );
+    ensure!(
+        shown_end == text_end && shown == text,
+        "the file of a full card is shown as another text"
+    );
     Ok((text_end, file_end))
 }
 
-// Whether code E's text is refused by memory that is a byte too short, which stays, and fits into one byte more.
-pub(crate) fn refuses_short_memory() -> Result<bool, Failure> {
+// Code E's text is refused by memory that is a byte too short, which stays, and fits into one byte more.
+pub(crate) fn expect_short_memory_refused() -> anyhow::Result<()> {
     let mut card = FinishedCard::new();
-    expect(read_text(OF_E[0].as_bytes(), &mut card).is_ok())?;
+    read_text(OF_E[0].as_bytes(), &mut card)?;
     let mut short = [FILL; E_SHORT];
     let mut enough = [FILL; E_TEXT];
     let refused = write_text(&card, &mut short);
     let end = write_text(&card, &mut enough)?;
-    Ok(refused == Err(Refusal::OutputShort) && short == [FILL; E_SHORT] && end == E_TEXT)
+    ensure!(
+        refused == Err(Refusal::OutputShort) && short == [FILL; E_SHORT],
+        "memory too short was not refused, or did not stay"
+    );
+    ensure!(
+        end == E_TEXT,
+        "the text of code E does not have {E_TEXT} bytes"
+    );
+    Ok(())
 }

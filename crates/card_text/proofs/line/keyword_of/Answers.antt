@@ -8,3 +8,9 @@ returns-in-LENGTH c = sym (ap keyword_of_lem (text_from_reads c.args.word.now (c
 
 pub returns-in-TRANSFORM : goal.returns-in-TRANSFORM
 returns-in-TRANSFORM c = sym (ap keyword_of_lem (text_from_reads c.args.word.now (codes "transform") (omega arith) (search rules)))
+
+pub returns-in-GROUP : goal.returns-in-GROUP
+returns-in-GROUP c = sym (ap keyword_of_lem (text_from_reads c.args.word.now (codes "group") (omega arith) (search rules)))
+
+pub returns-in-COSET : goal.returns-in-COSET
+returns-in-COSET c = sym (ap keyword_of_lem (text_from_reads c.args.word.now (codes "coset") (omega arith) (search rules)))

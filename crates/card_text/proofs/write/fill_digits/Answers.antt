@@ -1,6 +1,6 @@
 use Rattle.std.proofs.Common.{◌≡◌, ℕ, ◌-◌, length, ap, ◌∙◌, arith}
 use Rattle.card_text.specs.Texts.{digits_of, over}
-use Rattle.card_text.proofs.Writings.{digits_done, digits_length, digits_step, over_all}
+use Rattle.card_text.proofs.Writings.{digits_length, digits_step, over_all}
 use Rattle.card_text.proofs.write.fill_digits.Goals as goal
 
 pub loop-digit-init : goal.loop-digit-init
@@ -13,8 +13,3 @@ pub loop-digit-preserved : goal.loop-digit-preserved
 loop-digit-preserved c =
     let n = length c.args.digits.now in
     digits_step c.loop-digit.digit-index n c.loop-digit.rest c.loop-digit.digits (digits_of n c.args.row) (omega arith) (omega arith) c.loop-digit.invariant
-
-pub returns : goal.returns
-returns c =
-    let n = length c.args.digits.now in
-    digits_done c.loop-digit.digit-index n c.loop-digit.rest c.loop-digit.digits (digits_of n c.args.row) (omega arith) c.loop-digit.invariant

@@ -9,20 +9,6 @@ use Rattle.card_text.proofs.Writings.{text_length, text_written}
 use Rattle.card_text.proofs.TextBack.{text_back}
 use Rattle.card_text.proofs.write.write_lines.Goals as goal
 
-pub returns-then-out-length_size : goal.returns-then-out-length_size
-returns-then-out-length_size c =
-    let k = c.args.card.now in
-    let out = c.args.out.now in
-    let G = c.section_rows-group.result.now in
-    let T = c.section_rows-transform.result.now in
-    let C = c.section_rows-coset.result.now in
-    let n = c.places-places.result in
-    let same : ◌≡◌ {A = Card} (record { len = n; group = G; transform = T; coset = C }) k =
-    card_is k (c.places-places.ensures.value ∙ c.word_length.ensures.value) c.section_rows-group.ensures.value c.section_rows-transform.ensures.value c.section_rows-coset.ensures.value in
-    let b : ltb (length out) (length (text_of k)) ≡ true =
-    lt-ltb (length out) (length (text_of k)) (omega (arith, text_length n G T C, ap (λ (q : Card). length (text_of q)) same)) in
-    record { answer = simp b; bytes = simp b; back = tt }
-
 pub returns : goal.returns
 returns c =
     let k = c.args.card.now in
@@ -30,11 +16,11 @@ returns c =
     let G = c.section_rows-group.result.now in
     let T = c.section_rows-transform.result.now in
     let C = c.section_rows-coset.result.now in
-    let n = c.places-places.result in
+    let n = c.word_length-len.result in
     let end = c.write_rows-end.result in
     let after = c.write_rows-end.new.out in
     let same : ◌≡◌ {A = Card} (record { len = n; group = G; transform = T; coset = C }) k =
-    card_is k (c.places-places.ensures.value ∙ c.word_length.ensures.value) c.section_rows-group.ensures.value c.section_rows-transform.ensures.value c.section_rows-coset.ensures.value in
+    card_is k (c.word_length-len.ensures.value) c.section_rows-group.ensures.value c.section_rows-transform.ensures.value c.section_rows-coset.ensures.value in
     let sum = text_length n G T C in
     let (e, o) = text_written n G T C out c.write_length-after_length.new.out c.write_rows-after_group.new.out c.write_rows-after_transform.new.out after
     c.write_length-after_length.result c.write_rows-after_group.result c.write_rows-after_transform.result end (omega (arith, sum))
@@ -49,5 +35,5 @@ returns c =
     record {
       answer = simp (f, e');
       bytes = o' ∙ sym (ap (λ (x : Bool). cond x out (text_of k ++ drop (length (text_of k)) out)) f);
-      back = ap read_text_lem (ap (take end) o' ∙ take_at (text_of k) (drop (length (text_of k)) out) end (sym e')) ∙ text_back k c.word_length.ensures.lawful;
+      back = ap read_text_lem (ap (take end) o' ∙ take_at (text_of k) (drop (length (text_of k)) out) end (sym e')) ∙ text_back k c.word_length-len.ensures.lawful;
     }

@@ -3,22 +3,10 @@ use Rattle.card_text.specs.Texts.{digits_of, over}
 use Rattle.card_text.proofs.Writings.{digits_length, label_size, length-row_line, over_three}
 use Rattle.card_text.proofs.write.write_row.Goals as goal
 
-pub write_word-word-requires : goal.write_word-word-requires
-write_word-word-requires c =
-    omega (arith, c.requires, label_size c.word_of.result.now c.args.section c.word_of.ensures.value, length-row_line c.args.section c.args.places c.args.row)
-
-pub write_digits-digits-requires : goal.write_digits-digits-requires
-write_digits-digits-requires c =
-    omega (arith, c.requires, label_size c.word_of.result.now c.args.section c.word_of.ensures.value, length-row_line c.args.section c.args.places c.args.row, digits_length c.args.places c.args.row)
-
-pub write_bytes-requires : goal.write_bytes-requires
-write_bytes-requires c =
-    omega (arith, c.requires, label_size c.word_of.result.now c.args.section c.word_of.ensures.value, length-row_line c.args.section c.args.places c.args.row, digits_length c.args.places c.args.row)
-
 pub returns : goal.returns
 returns c =
     let s = c.args.section in
-    let n = c.args.places in
+    let n = c.args.len in
     let row = c.args.row in
     let E = c.args.out.now in
     let word = c.word_of.result.now in

@@ -4,29 +4,9 @@ use Rattle.card_text.specs.Texts.{over, section_text}
 use Rattle.card_text.proofs.Writings.{rows_room, rows_step, rows_done}
 use Rattle.card_text.proofs.write.write_rows.Goals as goal
 
-pub write_row-end-requires : goal.write_row-end-requires
-write_row-end-requires c =
-    let rows = c.args.rows.now in
-    let text = section_text c.args.section c.args.places rows in
-    omega (
-      arith,
-      c.requires,
-      rows_room c.args.section c.args.places rows c.loop-row.row-index c.loop-row.end (c.args.at + length text) c.loop-row.out
-          (over c.args.at text c.args.out.now) c.loop-row-test.true c.loop-row.invariant,
-    )
-
 pub loop-row-preserved : goal.loop-row-preserved
 loop-row-preserved c =
     let rows = c.args.rows.now in
-    let text = section_text c.args.section c.args.places rows in
-    rows_step c.args.section c.args.places rows c.loop-row.row-index c.loop-row.end c.write_row-end.result (c.args.at + length text) c.loop-row.out c.write_row-end.new.out
+    let text = section_text c.args.section c.args.len rows in
+    rows_step c.args.section c.args.len rows c.loop-row.row-index c.loop-row.end c.write_row-end.result (c.args.at + length text) c.loop-row.out c.write_row-end.new.out
     (over c.args.at text c.args.out.now) c.loop-row-test.true (omega (arith, c.requires)) c.loop-row.invariant c.write_row-end.ensures.end c.write_row-end.ensures.bytes
-
-pub returns : goal.returns
-returns c =
-    let rows = c.args.rows.now in
-    let text = section_text c.args.section c.args.places rows in
-    let i = c.loop-row.row-index in
-    let (e, o) = rows_done c.args.section c.args.places (drop i rows) c.loop-row.end (c.args.at + length text) c.loop-row.out
-    (over c.args.at text c.args.out.now) (drop_all i rows (omega arith)) c.loop-row.invariant in
-    record { end = e; bytes = o }
