@@ -53,9 +53,7 @@ fn row_2(rt: &HostRuntime, length: WordLength) -> anyhow::Result<()> {
 fn ninth_row(rt: &HostRuntime) -> anyhow::Result<()> {
     println!(rt; "On a card of 9 places with eight group rows of one digit each:")?;
     let mut full = GroupCard::new(WordLength::new(9)?);
-    for place in 0..8u32 {
-        full.add_row(1 << place)?;
-    }
+    (0..8u32).try_for_each(|place| full.add_row(1 << place))?;
     Ok(show_answer(rt, "A ninth row", full.add_row(1 << 8))?)
 }
 

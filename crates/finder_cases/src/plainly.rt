@@ -13,16 +13,13 @@ pub struct Due {
 
 // The agreement of a code word with readings.
 fn agreement<R: Weighed>(word: u64, readings: &[R]) -> i64 {
-    let mut sum = 0i64;
-    for (place, reading) in (0..64).zip(readings) {
-        let weight = reading.weighed();
-        sum = if word.wrapping_shr(place) % 2 == 1 {
-            sum.wrapping_sub(weight)
+    (0..64).zip(readings).fold(0i64, |sum, (place, reading)| {
+        if word.wrapping_shr(place) % 2 == 1 {
+            sum.wrapping_sub(reading.weighed())
         } else {
-            sum.wrapping_add(weight)
-        };
-    }
-    sum
+            sum.wrapping_add(reading.weighed())
+        }
+    })
 }
 
 pub(crate) fn search_all<R: Weighed>(rows: &[u64], readings: &[R]) -> Due {
