@@ -32,7 +32,10 @@ fn expect_refused(bytes: &[u8], due: Refusal) -> anyhow::Result<()> {
     let mut card = code_e()?;
     let answer = read_card(bytes, &mut card);
     ensure!(answer == Err(due), "a file was not {due:#}");
-    ensure!(card == code_e()?, "a file that was refused changed the card");
+    ensure!(
+        card == code_e()?,
+        "a file that was refused changed the card"
+    );
     Ok(())
 }
 

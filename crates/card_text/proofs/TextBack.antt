@@ -1,26 +1,21 @@
 -- A card that is written as text is read back the same.
-use Rattle.std.proofs.Common.{◌≡◌, ℕ, zero, suc, ◌+◌, ◌-◌, ◌*◌, ◌/◌, ◌%◌, ◌^◌, ◌<◌, ◌≤◌, Bool, true, false, cond, ◌&&◌, eqb, ltb, leb, List, [], ◌∷◌, ◌++◌, length, get_or, take, Some, None, Ok, Err, codes, Option, Result, sym, refl, ap, ◌∙◌, ap₂, inl, inr, append_assoc, div-add-mod', arith}
+use Rattle.std.proofs.Common.{◌≡◌, ℕ, zero, suc, ◌+◌, ◌-◌, ◌*◌, ◌/◌, ◌%◌, ◌^◌, ◌<◌, ◌≤◌, Bool, true, false, cond, ◌&&◌, eqb, ltb, leb, List, [], ◌∷◌, ◌++◌, length, get_or, take, Some, None, Ok, codes, sym, refl, ap, ◌∙◌, inl, inr, append_assoc, div-add-mod', arith}
 use native.Mathlib.Nat.{two-pow-succ}
 use Rattle.std.proofs.lemmas.List.{append-nil, get_or_past}
 use Rattle.std.proofs.lemmas.List.Elements.{All-from_get_or}
 use Rattle.std.proofs.lemmas.List.Splits.{slice_split_at}
 use Rattle.std.specs.List.{All}
 use Rattle.std.proofs.lemmas.Bool.Decides.{nat_tests}
-use Rattle.std.proofs.lemmas.Bool.{and_from, and_parts, cases_lt, eq-eqb, le-leb, le-ltb, lt-ltb, ltb-true, ne_eqb}
+use Rattle.std.proofs.lemmas.Bool.{cases_lt, eq-eqb, le-leb, le-ltb, lt-ltb, ne_eqb}
 use Rattle.code.specs.declared.refusal.Section.{Section}
 use Rattle.code.specs.declared.refusal.Section.TheVariants.{Group, Transform, Coset}
-use Rattle.code.specs.declared.refusal.Refusal.{Refusal}
-use Rattle.code.specs.declared.refusal.Refusal.TheVariants.{LengthOutOfRange}
 use Rattle.code.specs.Limits.{Length}
 use Rattle.card.specs.Rows.{Within}
 use Rattle.card.specs.Cards.{Card, Lawful, blank, pushed, verdict}
 use Rattle.card.proofs.Tables.{within_left, within_right}
 use Rattle.card_file.proofs.LetIn.{accepts, with_rows, with_group, with_transform, with_coset, let_in}
-use Rattle.card_text.specs.declared.fault.Problem.{Problem}
-use Rattle.card_text.specs.declared.fault.Problem.TheVariants.{DigitCount, Refused, SectionClosed}
-use Rattle.card_text.specs.declared.fault.TextFault.{TextFault}
-use Rattle.card_text.specs.Lines.{binary_row, decimal_of_lem, first_odd_lem, is_binary_lem, lines_of, row_of, row_read, trimmed}
-use Rattle.card_text.specs.Drafts.{Stage, unset, taking, in_line, line_read, lines_read, on_ok, rank, read_text_lem, row_added, started, told}
+use Rattle.card_text.specs.Lines.{decimal_of_lem, first_odd_lem, lines_of, row_of, row_read, trimmed}
+use Rattle.card_text.specs.Drafts.{Stage, unset, taking, line_read, lines_read, rank, read_text_lem, row_added, started}
 use Rattle.card_text.specs.Texts.{decimal_text, digits_of, label_of, length_line, row_line, section_text, text_of}
 use Rattle.card_text.proofs.Writings.{digits_length}
 

@@ -22,13 +22,6 @@ over-over at xs ys old h =
     ∙ append_assoc A xs (ys ++ drop (at + length (xs ++ ys)) old)
     ∙ ap (λ (l : List ℕ). A ++ l) (sym (append_assoc xs ys (drop (at + length (xs ++ ys)) old)))
 
--- memory whose part from `at` to `end` became `part`
-pub over_part : (at end : ℕ) (part bytes old : List ℕ) → part ≡ bytes → end ≡ at + length bytes → take at old ++ (part ++ drop (end - at) (drop at old)) ≡ over at bytes old
-over_part at end part bytes old e f =
-    let size : end - at ≡ length bytes = omega (arith, f) in
-    ap₂ (λ (ys : List ℕ) (k : ℕ). take at old ++ (ys ++ drop k (drop at old))) e size
-    ∙ ap (λ (l : List ℕ). take at old ++ (bytes ++ l)) (drop-drop (length bytes) at old)
-
 -- one piece after another
 pub over_then : (at d : ℕ) (xs ys E o₁ o₂ : List ℕ) → at + length xs ≤ length E → d ≡ at + length xs → o₁ ≡ over at xs E → o₂ ≡ over d ys o₁
     → o₂ ≡ over at (xs ++ ys) E
@@ -40,11 +33,6 @@ over_three at d e xs ys zs E o₁ o₂ o₃ h ed ee e₁ e₂ e₃ =
     over_then at e (xs ++ ys) zs E o₂ o₃ (omega (arith, length-append xs ys)) (omega (arith, ed, ee, length-append xs ys))
     (over_then at d xs ys E o₁ o₂ (omega arith) ed e₁ e₂) e₃
     ∙ ap (λ (l : List ℕ). over at l E) (append_assoc xs ys zs)
-
-pub over_none : (at : ℕ) (old : List ℕ) → over at [] old ≡ old
-over_none at old =
-    let z : at + 0 ≡ at = omega arith in
-    rw z (take-append-drop at old)
 
 pub over_all : (bytes old : List ℕ) → length bytes ≡ length old → over 0 bytes old ≡ bytes
 over_all bytes old e = ap (λ (l : List ℕ). bytes ++ l) (drop_all (0 + length bytes) old (omega (arith, e))) ∙ append-nil bytes
@@ -106,18 +94,6 @@ rows_step s n rows i p q stop out next done h room l eq en =
       writes = over_then p q line rest out next (over q rest next) (omega (arith, all)) eq en refl
           ∙ sym (at_drop_more (λ (rs : List ℕ). over p (section_text s n rs) out) rows i 0 h) ∙ l.writes;
     }
-
-pub rows_done : (s : Section) (n : ℕ) (rows : List ℕ) (p stop : ℕ) (out done : List ℕ) → rows ≡ [] → RowsLeft s n rows p stop out done → (p ≡ stop) × (out ≡ done)
-rows_done s n rows p stop out done none l =
-    (omega (arith, rw none at l.ends), sym (over_none p out) ∙ rw none at l.writes)
-
--- ---- the length
-
-pub decimal_length : (n : ℕ) → length (decimal_text n) ≡ cond (ltb n 10) 1 2
-decimal_length n = elim (ltb n 10) as (λ (b : Bool). length (cond b ((48 + n) ∷ []) ((48 + n / 10) ∷ (48 + n % 10) ∷ [])) ≡ cond b 1 2) [ true ↦ refl | false ↦ refl ]
-
-pub length-length_line : (n : ℕ) → length (length_line n) ≡ 8 + length (decimal_text n)
-length-length_line n = omega (arith, length-append (decimal_text n) (10 ∷ []))
 
 -- ---- the whole text
 

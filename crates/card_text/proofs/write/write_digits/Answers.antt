@@ -1,7 +1,5 @@
-use Rattle.std.proofs.Common.{◌≡◌, ℕ, ◌+◌, ◌-◌, ◌≤◌, length, take, drop, ap, ◌∙◌, arith, length-drop}
-use Rattle.std.proofs.lemmas.List.{length-take-le}
-use Rattle.card_text.specs.Texts.{digits_of}
-use Rattle.card_text.proofs.Writings.{digits_length, over_part}
+use Rattle.std.proofs.Common.{arith}
+use Rattle.card_text.proofs.Writings.{digits_length}
 use Rattle.card_text.proofs.write.write_digits.Goals as goal
 
 pub slice_bounds-fill_digits-end : goal.slice_bounds-fill_digits-end

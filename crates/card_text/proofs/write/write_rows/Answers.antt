@@ -1,7 +1,6 @@
-use Rattle.std.proofs.Common.{◌+◌, length, drop, arith}
-use Rattle.std.proofs.lemmas.List.{drop_all}
+use Rattle.std.proofs.Common.{◌+◌, length, arith}
 use Rattle.card_text.specs.Texts.{over, section_text}
-use Rattle.card_text.proofs.Writings.{rows_room, rows_step, rows_done}
+use Rattle.card_text.proofs.Writings.{rows_step}
 use Rattle.card_text.proofs.write.write_rows.Goals as goal
 
 pub loop-row-preserved : goal.loop-row-preserved
