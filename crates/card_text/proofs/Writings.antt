@@ -1,9 +1,9 @@
 -- Bytes written one piece after the other.
-use Rattle.std.proofs.Common.{◌≡◌, ℕ, zero, suc, ◌+◌, ◌-◌, ◌*◌, ◌/◌, ◌%◌, ◌<◌, ◌≤◌, Bool, true, false, cond, ltb, List, [], ◌∷◌, ◌++◌, length, get_or, take, drop, set, sym, refl, ap, ◌∙◌, ap₂, append_assoc, add-one, arith, length-append}
-use Rattle.std.proofs.lemmas.List.{append-nil, at_drop_more, drop_all, take_at, drop_at, drop-drop, length-take-le, take-append-drop, set_split}
+use Rattle.std.proofs.Common.{◌≡◌, ℕ, zero, suc, ◌+◌, ◌-◌, ◌*◌, ◌/◌, ◌%◌, ◌<◌, ◌≤◌, List, [], ◌∷◌, ◌++◌, length, get_or, take, drop, set, sym, refl, ap, ◌∙◌, ap₂, append_assoc, add-one, arith, length-append}
+use Rattle.std.proofs.lemmas.List.{append-nil, at_drop_more, drop_all, take_at, drop_at, drop-drop, length-take-le, set_split}
 use Rattle.code.specs.declared.refusal.Section.{Section}
 use Rattle.code.specs.declared.refusal.Section.TheVariants.{Group, Transform, Coset}
-use Rattle.card_text.specs.Texts.{decimal_text, digits_of, label_of, length_line, over, row_line, section_text, text_of}
+use Rattle.card_text.specs.Texts.{digits_of, label_of, length_line, over, row_line, section_text, text_of}
 
 -- ---- pieces
 
