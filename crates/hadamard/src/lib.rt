@@ -54,7 +54,7 @@ fn cross_blocks<R: Reading>(list: &mut [R], half: usize, blocks: usize)
 }
 
 // One stage: the butterflies of one stride.
-// The small strides are named as constants, so that the loop over a block is unrolled: without this the transform of 65,536 levels takes 2.7 times as long.
+// The small strides are named as constants, so that the loop over a block is unrolled: without this the transform of 65,536 levels takes 1.6 times as long.
 fn stage<R: Reading>(list: &mut [R], half: usize, blocks: usize)
     requires long { length list.old ≡ blocks * (half + half) }
     requires small { (b : ℕ) → b < blocks → sum_by R.Reading.size (block (half + half) b list.old) ≤ sum_limit }
