@@ -91,13 +91,15 @@ fn search_negated<R: Reading, F: Finder>(
     found
 }
 
-// Searches below for each choice of the layer's own rows.
+// Searches below for each choice of the layer's own rows; k is the number of rows there.
 fn search_choices<R: Reading, F: Finder>(
     below: &F,
     own: &[u64],
+    k: usize,
     word: &mut [R],
     work: &mut [R],
 ) -> Result<Found<R>, Refusal>
+    requires count { k ≡ length (F.Finder.meaning below.now).rows }
     requires few { length own.now ≤ layer_rows }
     requires room { length own.now + length (F.Finder.meaning below.now).rows ≤ max_rows }
     ensures same { word.new ≡ word.old }
@@ -106,7 +108,6 @@ fn search_choices<R: Reading, F: Finder>(
         (Refused R.Reading.size (F.Finder.meaning below.now).span (F.Finder.meaning below.now).need word.old work.old work.new) }
 {
     let n = below.length().places();
-    let k = below.row_count();
     let mut best = below.search(word, work)?;
     for choice in 1..1u32 << own.len() {
         let mask = first_digits(word_of(own, choice as u64), n);
@@ -244,6 +245,7 @@ impl<F: Finder> Finder for CosetLayer<F> {
     }
 
     fn search<R: Reading>(&self, word: &mut [R], work: &mut [R]) -> Result<Found<R>, Refusal> {
-        search_choices(&self.below, self.own_rows(), word, work)
+        let k = self.below.row_count();
+        search_choices(&self.below, self.own_rows(), k, word, work)
     }
 }

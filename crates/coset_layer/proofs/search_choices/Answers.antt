@@ -32,7 +32,7 @@ overflow_add-piled g c =
     let p = c.requires in
     let room : own + rows ≤ 24 = p.room in
     let l = choice_below c.loop-choice.choice own p.few c.loop-choice-test.true in
-    let s = ap (λ (k : ℕ). (c.loop-choice.choice * 2 ^ k) % 4294967296) c.row_count-k.ensures ∙ choice_shift c.loop-choice.choice own rows l room in
+    let s = ap (λ (k : ℕ). (c.loop-choice.choice * 2 ^ k) % 4294967296) c.requires.count ∙ choice_shift c.loop-choice.choice own rows l room in
     let b = message_below c.loop-choice.choice own rows c.in_ok-found.found.message l room h.answer.0.within in
     omega arith
 
@@ -50,7 +50,7 @@ loop-choice-preserved g c =
     let p = c.requires in
     let room : length c.args.own.now + length rows ≤ 24 = p.room in
     let l = choice_below ch (length c.args.own.now) p.few c.loop-choice-test.true in
-    let s : (ch * 2 ^ c.row_count-k.result) % 4294967296 ≡ ch * 2 ^ length rows = ap (λ (k : ℕ). (ch * 2 ^ k) % 4294967296) c.row_count-k.ensures ∙ choice_shift ch (length c.args.own.now) (length rows) l room in
+    let s : (ch * 2 ^ c.args.k) % 4294967296 ≡ ch * 2 ^ length rows = ap (λ (k : ℕ). (ch * 2 ^ k) % 4294967296) c.requires.count ∙ choice_shift ch (length c.args.own.now) (length rows) l room in
     let mask : c.first_digits-mask.result ≡ codeword own ch = c.first_digits-mask.ensures ∙ ap₂ (λ (x k : ℕ). x % 2 ^ k) c.word_of.ensures.value (c.places-n.ensures.value ∙ c.length.ensures) ∙ sym (codeword-cut (g.F.Finder.meaning c.args.below.now).span c.args.own.now ch) in
     let same = c.loop-choice.invariant.0 in
     let vs : negated_at (map r.weight c.loop-choice.word) c.first_digits-mask.result ≡ negated_at ws (codeword own ch) =
@@ -58,7 +58,7 @@ loop-choice-preserved g c =
     let best = subst (λ (v : List ℤ). Best rows v m) vs a.0 in
     let wy : r.weight y ≡ agrees rows (negated_at ws (codeword own ch)) m = a.1 ∙ ap (λ (v : List ℤ). agrees rows v m) vs in
     let x = r.weight c.loop-choice.best.reading in
-    let em : m + (ch * 2 ^ c.row_count-k.result) % 4294967296 ≡ m + ch * 2 ^ length rows = ap (λ (k : ℕ). m + k) s in
+    let em : m + (ch * 2 ^ c.args.k) % 4294967296 ≡ m + ch * 2 ^ length rows = ap (λ (k : ℕ). m + k) s in
     let t = picked (λ f. Top (agrees (rows ++ own) ws) ((ch + 1) * 2 ^ length rows) f.message × (r.weight f.reading ≡ agrees (rows ++ own) ws f.message))
     (lt_z x (r.weight y)) c.loop-choice.best _ c.or_heavier-best.result c.or_heavier-best.ensures
     (λ e. subst (λ (k : ℕ). Top (agrees (rows ++ own) ws) ((ch + 1) * 2 ^ length rows) k × (r.weight y ≡ agrees (rows ++ own) ws k)) (sym em)
