@@ -91,7 +91,7 @@ fn search_negated<R: Reading, F: Finder>(
     found
 }
 
-// Searches below for each choice of the layer's own rows; k is the number of rows there.
+// Searches below for each choice of the layer's own rows; k is the number of rows below.
 fn search_choices<R: Reading, F: Finder>(
     below: &F,
     own: &[u64],
