@@ -11,13 +11,13 @@ pub struct GroupCard {
 
 impl Model for GroupCard {
     ghost use Rattle.code.specs.declared.refusal.Section.TheVariants.{Group};
-    ghost use Rattle.card.specs.Cards.{Card, NoneAfter};
+    ghost use Rattle.card.specs.Cards.{Card, Lawful, NoneAfter};
 
     ghost Value = { Card };
 
     ghost view = { λ c. c.table };
 
-    ghost invariant = { λ c. NoneAfter c.table Group };
+    ghost invariant = { λ c. (Lawful c.table) × NoneAfter c.table Group };
 
     ghost inverse = { λ k. record { table = k } };
 }
@@ -30,13 +30,13 @@ pub struct TransformCard {
 
 impl Model for TransformCard {
     ghost use Rattle.code.specs.declared.refusal.Section.TheVariants.{Transform};
-    ghost use Rattle.card.specs.Cards.{Card, NoneAfter};
+    ghost use Rattle.card.specs.Cards.{Card, Lawful, NoneAfter};
 
     ghost Value = { Card };
 
     ghost view = { λ c. c.table };
 
-    ghost invariant = { λ c. NoneAfter c.table Transform };
+    ghost invariant = { λ c. (Lawful c.table) × NoneAfter c.table Transform };
 
     ghost inverse = { λ k. record { table = k } };
 }
@@ -48,11 +48,13 @@ pub struct CosetCard {
 }
 
 impl Model for CosetCard {
-    ghost use Rattle.card.specs.Cards.{Card};
+    ghost use Rattle.card.specs.Cards.{Card, Lawful};
 
     ghost Value = { Card };
 
     ghost view = { λ c. c.table };
+
+    ghost invariant = { λ c. Lawful c.table };
 
     ghost inverse = { λ k. record { table = k } };
 }
@@ -64,11 +66,13 @@ pub struct FinishedCard {
 }
 
 impl Model for FinishedCard {
-    ghost use Rattle.card.specs.Cards.{Card};
+    ghost use Rattle.card.specs.Cards.{Card, Lawful};
 
     ghost Value = { Card };
 
     ghost view = { λ c. c.table };
+
+    ghost invariant = { λ c. Lawful c.table };
 
     ghost inverse = { λ k. record { table = k } };
 }

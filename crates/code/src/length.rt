@@ -1,4 +1,4 @@
-ghost use Rattle.std.specs.Prelude.{◌≡◌, ◌≤◌, ℕ, MatchResult};
+ghost use Rattle.std.specs.Prelude.{◌≡◌, ℕ, MatchResult};
 ghost use Rattle.code.specs.declared.refusal.Refusal.TheVariants.{LengthOutOfRange};
 ghost use Rattle.code.specs.Limits.{Length};
 
@@ -25,7 +25,7 @@ impl Model for WordLength {
 impl WordLength {
     // The length of so many places, or the refusal of a number that is no length.
     pub fn new(places: usize) -> Result<WordLength, Refusal>
-        ensures { MatchResult result (λ w. w ≡ places) (λ e. (e ≡ LengthOutOfRange) × (Length places → ⊥)) }
+        ensures { MatchResult result (λ w. (w ≡ places) × Length w) (λ e. (e ≡ LengthOutOfRange) × (Length places → ⊥)) }
     {
         if places == 0 || places > MAX_PLACES {
             return Err(Refusal::LengthOutOfRange);

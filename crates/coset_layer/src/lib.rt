@@ -1,14 +1,13 @@
 #![tactic(auto)]
 
-ghost use Rattle.std.specs.Prelude.{◌≡◌, ℕ, ◌+◌, ◌-◌, ◌*◌, ◌%◌, ◌^◌, ◌<◌, ◌≤◌, true, List, [], ◌∷◌, ◌++◌, map, length, take, drop, Some, MatchOption, MatchResult, OnOk, nat_lt, slice_index};
+ghost use Rattle.std.specs.Prelude.{◌≡◌, ℕ, ◌+◌, ◌-◌, ◌*◌, ◌%◌, ◌^◌, ◌<◌, ◌≤◌, List, [], ◌∷◌, ◌++◌, map, length, take, drop, Some, MatchResult, OnOk, nat_lt};
 ghost use Rattle.std.specs.List.{AllByRecursion};
-ghost use Rattle.card.specs.Cards.{Lawful, rows_of, max_section_rows};
-ghost use Rattle.card.specs.Rows.{Within};
+ghost use Rattle.card.specs.Cards.{Lawful, rows_of};
 ghost use Rattle.code.specs.Limits.{max_places, max_rows, sum_limit};
-ghost use Rattle.code.specs.Words.{Best, agrees, codeword, negated_at};
+ghost use Rattle.code.specs.Words.{Best, agrees, negated_at};
 ghost use Rattle.finder.specs.Search.{Answered, Refused, refusal};
 ghost use Rattle.coset_layer.specs.Layers.{layer_meaning};
-ghost use Rattle.coset_layer.specs.Pile.{above, cut_to, layer_rows, opposite_at, pile_rows, row_verdict};
+ghost use Rattle.coset_layer.specs.Pile.{above, layer_rows, opposite_at, pile_rows, row_verdict};
 ghost use Rattle.coset_layer.specs.Piles.{pile_lawful};
 
 use card::states::FinishedCard;
@@ -28,7 +27,7 @@ const LAYER_ROWS: usize = 4;
 #[derive(Clone, Copy)]
 pub struct CosetLayer<F> {
     below: F,
-    own: Rows<4>,
+    own: Rows<LAYER_ROWS>,
 }
 
 // The digits of a row at the first `n` places; 2^64 is no u64, so all 64 are a case of their own.

@@ -11,7 +11,7 @@ use code::refusal::Refusal;
 use reading::Reading;
 
 // The largest number of rows of which a column is taken.
-const COLUMN_ROWS: usize = 16;
+pub(crate) const COLUMN_ROWS: usize = 16;
 
 // For each place of a word the number whose digit j is the digit of row j there, of at most the first 16 rows.
 pub fn columns(rows: &[u64], length: WordLength) -> [usize; 64]

@@ -7,7 +7,7 @@ pub mod found;
 pub mod of_card;
 pub mod plain;
 
-ghost use Rattle.std.specs.Prelude.{◌≡◌, ℕ, ◌<◌, ◌≤◌, List, length, MatchOption, MatchResult, slice_index};
+ghost use Rattle.std.specs.Prelude.{◌≡◌, ◌<◌, ◌≤◌, length, MatchOption, MatchResult, slice_index};
 ghost use Rattle.finder.specs.Search.{Lawful, Meaning, Answered, Refused};
 
 use crate::found::Found;

@@ -1,4 +1,4 @@
-ghost use Rattle.std.specs.Prelude.{◌≡◌, ◌+◌, ◌^◌, ◌<◌, ◌≤◌, ◌++◌, map, length, take, MatchOption, MatchResult, slice_index};
+ghost use Rattle.std.specs.Prelude.{◌≡◌, ◌+◌, ◌^◌, ◌<◌, ◌≤◌, length, MatchResult};
 ghost use Rattle.code.specs.Limits.{Length};
 ghost use Rattle.code.specs.Words.{Top};
 ghost use Rattle.card.specs.Rows.{Within};
@@ -6,12 +6,10 @@ ghost use Rattle.hadamard.specs.Transform.{weight_at};
 ghost use Rattle.finder.specs.Search.{Answered, Refused};
 ghost use Rattle.finder.specs.Fold.{column_rows};
 ghost use Rattle.finder.specs.OfCard.{card_meaning, plain_need_of};
-ghost use Rattle.std.proofs.Common.{arith};
-ghost use Rattle.std.proofs.lemmas.List.{length-take};
 ghost use Rattle.finder.specs.PlainRows.{plain_lawful};
 
 use crate::Finder;
-use crate::fold::{columns, fold};
+use crate::fold::{COLUMN_ROWS, columns, fold};
 use crate::found::Found;
 use card::states::FinishedCard;
 use code::length::WordLength;
@@ -24,7 +22,7 @@ use reading::Reading;
 #[derive(Clone, Copy)]
 pub struct PlainFinder {
     span: WordLength,
-    rows: Rows<16>,
+    rows: Rows<COLUMN_ROWS>,
     ghost sized: { Length span },
     ghost few: { length rows ≤ column_rows },
     ghost within: { Within span rows },

@@ -8,7 +8,7 @@ ghost use Rattle.group_finder.specs.Choices.{BestBefore, BestKept, Extended, Kep
 use finder::found::Found;
 use reading::Reading;
 
-// What is kept of a message: all of it in a `u32`, nothing in `()`, with which a search takes half the time.
+// What is kept of a message: all of it in a `u32`, nothing in `()`, with which the walk takes half the time.
 trait Message: Copy {
     // Whether this may be what is kept of the number.
     ghost keeps: { Self → ℕ → Type 0 };

@@ -3,7 +3,7 @@
 mod choices;
 mod slots;
 
-ghost use Rattle.std.specs.Prelude.{◌≡◌, ℕ, ◌+◌, ◌-◌, ◌^◌, ◌≤◌, ◌++◌, map, length, take, MatchResult};
+ghost use Rattle.std.specs.Prelude.{◌≡◌, ◌+◌, ◌-◌, ◌^◌, ◌≤◌, ◌++◌, length, take, MatchResult};
 ghost use Rattle.card.specs.Cards.{Lawful, max_section_rows};
 ghost use Rattle.card.specs.Rows.{Concur};
 ghost use Rattle.code.specs.Limits.{Length};

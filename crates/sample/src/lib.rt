@@ -2,10 +2,10 @@
 
 pub mod level;
 
-ghost use Rattle.std.specs.Prelude.{◌≡◌, ℕ, ◌≤◌, List, IfOk, MatchResult, unsigned_abs};
+ghost use Rattle.std.specs.Prelude.{◌≡◌, ◌≤◌, IfOk, MatchResult, unsigned_abs};
 ghost use Rattle.code.specs.Limits.{full_label};
 ghost use Rattle.sample.specs.Levels.{label_at};
-ghost use Rattle.sample.specs.Samples.{answer, fault, level_fault, labels_of, main_label, second_label, first_fault, Good, Bad, AllGood, FirstBad};
+ghost use Rattle.sample.specs.Samples.{answer, fault, level_fault, labels_of, first_fault, Good, Bad, AllGood, FirstBad};
 
 use crate::level::{FULL_LABEL, label};
 use code::refusal::Refusal;

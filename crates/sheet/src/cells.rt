@@ -1,5 +1,5 @@
-ghost use Rattle.std.specs.Prelude.{◌≡◌, ℕ, ◌+◌, ◌<◌, ◌≤◌, min, true, false, List, length, MatchResult, slice_index_or};
-ghost use Rattle.code.specs.Limits.{max_places, full_label, sum_limit, size_limit};
+ghost use Rattle.std.specs.Prelude.{◌≡◌, ℕ, ◌+◌, ◌<◌, ◌≤◌, min, true, false, length, MatchResult, slice_index_or};
+ghost use Rattle.code.specs.Limits.{max_places, full_label, sum_limit};
 ghost use Rattle.sample.specs.Samples.{Good, AllGood};
 ghost use Rattle.sheet.specs.Cells.{Blank, AllBlank, Grown, Fits, Overgrown, FirstOvergrown, PassFits, PassFails, Added, Passed};
 

@@ -1,4 +1,4 @@
-ghost use Rattle.std.specs.Prelude.{◌≡◌, ◌<◌, ◌≤◌, length, drop, MatchResult};
+ghost use Rattle.std.specs.Prelude.{◌≡◌, ◌<◌, ◌≤◌, length, drop, Err, MatchResult, OnErr};
 ghost use Rattle.code.specs.declared.refusal.Refusal.TheVariants.{OutputShort};
 ghost use Rattle.sheet.specs.Stands.{Kept};
 ghost use Rattle.sheet.specs.Runs.{ByName, Served, RanFrom, RanOver};
@@ -106,6 +106,7 @@ pub fn run_over_by<'f, R: Reading, N: 'f, F: Finder + 'f, L: Fn(&'f N) -> &'f F>
     answers: &mut [Answer<R>],
 ) -> Result<u32, Refusal>
     requires { L.IsAlwaysCallable finder_of }
+    ensures short { OnErr result (result ≡ Err OutputShort) }
     ensures law { ByName L.Fn finder_of F.Finder.meaning (λ by. MatchResult result
         (λ count. RanOver R.Reading by requests.now count cells.old cells.new work.old work.new answers.old answers.new)
         (λ e. (e ≡ OutputShort) × (length answers.old < length requests.now))) }

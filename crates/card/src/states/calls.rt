@@ -11,7 +11,8 @@ use code::refusal::{Refusal, Section};
 impl GroupCard {
     // A card just started, with no rows.
     pub fn new(len: WordLength) -> GroupCard
-        ensures { result ≡ blank len }
+        ensures card { result ≡ blank len }
+        ensures lawful { Lawful result }
     {
         GroupCard {
             table: Table::new(len),
@@ -34,6 +35,7 @@ impl GroupCard {
     pub fn close_group(self) -> TransformCard
         ensures card { result ≡ self }
         ensures none_after { NoneAfter self Group }
+        ensures lawful { Lawful result }
     {
         TransformCard { table: self.table }
     }
@@ -56,6 +58,7 @@ impl TransformCard {
     pub fn close_transform(self) -> CosetCard
         ensures card { result ≡ self }
         ensures none_after { NoneAfter self Transform }
+        ensures lawful { Lawful result }
     {
         CosetCard { table: self.table }
     }
@@ -76,7 +79,8 @@ impl CosetCard {
 
     // The same card, taking no more rows.
     pub fn finish(self) -> FinishedCard
-        ensures { result ≡ self }
+        ensures card { result ≡ self }
+        ensures lawful { Lawful result }
     {
         FinishedCard { table: self.table }
     }
@@ -85,7 +89,8 @@ impl CosetCard {
 impl FinishedCard {
     // Length 1 and no rows.
     pub fn new() -> FinishedCard
-        ensures { result ≡ blank 1 }
+        ensures card { result ≡ blank 1 }
+        ensures lawful { Lawful result }
     {
         let Ok(shortest) = WordLength::new(1) else {
             unreachable()

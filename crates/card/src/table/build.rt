@@ -10,7 +10,8 @@ use code::words::word_of;
 impl Table {
     // A table with no rows.
     pub(crate) fn new(len: WordLength) -> Table
-        ensures { result ≡ blank len }
+        ensures card { result ≡ blank len }
+        ensures lawful { Lawful result }
     {
         // The call shows that the length is lawful.
         let _ = len.places();

@@ -1,4 +1,4 @@
-ghost use Rattle.std.specs.Prelude.{◌≡◌, ◌^◌, ◌<◌, ◌≤◌, length, nat_le};
+ghost use Rattle.std.specs.Prelude.{◌≡◌, ◌^◌, ◌<◌, length, nat_le};
 ghost use Rattle.code.specs.Limits.{Length};
 ghost use Rattle.card.specs.Rows.{dependent};
 ghost use Rattle.card.specs.Cards.{keeps, rows_of, section_of, max_section_rows, verdict};
