@@ -10,6 +10,7 @@ use code::refusal::{Refusal, Section};
 // The bytes of code E: four more than its four rows take.
 const E_BYTES: usize = 36;
 
+// Code E. Other programs build the same card and show or refuse other things on the way; a library for these calls would be no plainer.
 fn code_e() -> Result<FinishedCard, Refusal> {
     let mut group = GroupCard::new(WordLength::new(5)?);
     group.add_row(3)?;

@@ -21,7 +21,7 @@ impl Seen {
     }
 }
 
-// The next pseudo-random number.
+// The next pseudo-random number. The numbers of this sequence and of that in `finder_cases` are in the stored outputs, and programs share no code.
 fn next(state: u64) -> u64 {
     let a = state ^ (state << 13);
     let b = a ^ (a >> 7);

@@ -26,6 +26,7 @@ pub fn make_file(text: &[u8], out: &mut [u8]) -> Result<usize, Fault>
 }
 
 // Writes the text of the card that a file describes. The text is read as the card that the file is read as.
+// Not one function with `make_file`: with a reader and a writer handed in, each contract would speak of four closures' laws.
 pub fn show_file(file: &[u8], out: &mut [u8]) -> Result<usize, Fault>
     ensures answer { result ≡ converted text_of (file_told (read_card_lem file.now)) (length out.old) }
     ensures bytes { out.new ≡ written_as text_of (result_ok (read_card_lem file.now)) out.old }

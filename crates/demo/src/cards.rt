@@ -17,6 +17,7 @@ fn show_answer(rt: &HostRuntime, what: &str, answer: Result<(), Refusal>) -> io:
 }
 
 // The code of the demonstration as a card: rows 0 and 1 are group rows, row 2 is a transform row, row 3 a coset row.
+// What other programs build without a word is shown here row by row.
 fn code_e(rt: &HostRuntime, length: WordLength) -> io::Result<FinishedCard> {
     let mut group = GroupCard::new(length);
     show_answer(rt, "Group row 3, digits 11000", group.add_row(ROWS[0]))?;

@@ -23,7 +23,7 @@ const FULL_LABEL: i32 = 1024;
 // The number of messages of the code.
 const MESSAGES: usize = 16;
 
-// A plain finder of all four rows of the code.
+// A plain finder of all four rows of the code, so that the section of row 3 is another than elsewhere.
 fn plain_finder() -> Result<PlainFinder, Refusal> {
     let mut group = GroupCard::new(WordLength::new(PLACES)?);
     group.add_row(ROWS[0])?;

@@ -14,6 +14,7 @@ use reading::Reading;
 pub(crate) const COLUMN_ROWS: usize = 16;
 
 // For each place of a word the number whose digit j is the digit of row j there, of at most the first 16 rows.
+// An array of 64, since the library uses no heap; the places beyond the length are not used.
 pub fn columns(rows: &[u64], length: WordLength) -> [usize; 64]
     ensures { (i : ℕ) → i < length → slice_index result i ≡ column (take column_rows rows.now) i }
 {

@@ -11,7 +11,7 @@ pub(crate) const MOST_ROWS: usize = 12;
 // The most rows of a section.
 const SECTION_ROWS: usize = 8;
 
-// A sequence of pseudo-random numbers.
+// A sequence of pseudo-random numbers, not that of `card_cases`: the numbers of both are in the stored outputs.
 #[derive(Clone, Copy)]
 pub struct Random {
     state: u64,

@@ -138,6 +138,7 @@ pub(crate) fn try_card(
     try_refusals(alloc, card, random, &word[..places], seen)
 }
 
+// A function for each kind: one for both would draw two numbers for a level, and the stored output would change.
 fn level_word(random: &mut Random) -> [Level; 64] {
     array::from_fn(|_| Level {
         value: random.small(),

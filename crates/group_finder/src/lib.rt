@@ -51,6 +51,7 @@ fn need_of(group: usize, others: usize) -> usize
 }
 
 // Folds the word into the lists of the slots, transforms each, and takes the best of all choices.
+// The need is handed in by `search`, so that each public search is a thin caller.
 fn search_group<R: Reading>(
     group: &[u64],
     others: &[u64],

@@ -33,7 +33,7 @@ fn slot_of(c: usize, count: usize) -> usize
 }
 
 // For each place of a word the entry that its reading goes to: its slot's list, and there its column of the other rows.
-// A loop by number: beyond the word's places nothing is known of the two columns.
+// A loop by number: beyond the word's places nothing is known of the two columns. An array of 64, since the library uses no heap.
 pub(crate) fn group_slots(
     group: &[u64],
     others: &[u64],
@@ -65,6 +65,7 @@ pub(crate) fn transform_parts<R: Reading>(lists: &mut [R], span: usize, count: u
 {
     for q in 0..count {
         let from = q * span;
+        // Never refused: the lists are of a length 2^t and small enough.
         let _ = transform(&mut lists[from..from + span]);
     }
 }

@@ -26,6 +26,7 @@ pub fn butterfly<R: Reading>(a: R, b: R) -> (R, R)
 }
 
 // One block of a stage: entries k and half + k become their sum and their difference.
+// The second half goes by number: after a zip of two `iter_mut` a proof knows no entry.
 fn cross<R: Reading>(list: &mut [R], half: usize)
     requires long { length list.old ≡ half + half }
     requires small { sum_by R.Reading.size list.old ≤ sum_limit }

@@ -31,6 +31,7 @@ impl Reading for Level {
 
     ghost negation = { Prim.search rules };
 
+    // In each kind, since its contract names the constants of that kind, which a body in the trait could not.
     fn units() -> (u64, u64)
         ensures main { (result.0 ≡ 1) × (result.0 ≡ ⟦<Level as Reading>⟧.MAIN_UNIT) }
         ensures second { (result.1 ≡ 0) × (result.1 ≡ ⟦<Level as Reading>⟧.SECOND_UNIT) }

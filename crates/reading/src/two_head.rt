@@ -46,6 +46,7 @@ impl Reading for TwoHead {
 
     ghost negation = { Prim.search rules };
 
+    // In each kind, since its contract names the constants of that kind, which a body in the trait could not.
     fn units() -> (u64, u64)
         ensures main { (result.0 ≡ 2 ^ 32) × (result.0 ≡ ⟦<TwoHead as Reading>⟧.MAIN_UNIT) }
         ensures second { (result.1 ≡ 1) × (result.1 ≡ ⟦<TwoHead as Reading>⟧.SECOND_UNIT) }

@@ -89,6 +89,7 @@ fn check_pass<R: Reading>(cells: &[R], passes: u32, samples: &[Sample]) -> Resul
 }
 
 // Adds to each cell the reading made from its sample.
+// The sample goes by number: after a zip with `iter_mut` a proof knows no cell.
 fn add_samples<R: Reading>(cells: &mut [R], samples: &[Sample])
     requires long { length samples.now ≡ length cells.old }
     requires good { AllGood samples.now }

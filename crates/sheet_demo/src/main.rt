@@ -18,7 +18,7 @@ const ROWS: [u64; 4] = [3, 6, 12, 17];
 // Readings of work memory, enough for both finders of the code.
 const WORK: usize = 8;
 
-// The code as a card: rows 0 and 1 are group rows, row 2 is a transform row, row 3 a coset row.
+// The code as a card: rows 0 and 1 are group rows, row 2 is a transform row, row 3 a coset row. A library that programs share for these calls would be no plainer.
 fn code_e() -> Result<FinishedCard, Refusal> {
     let mut group = GroupCard::new(WordLength::new(PLACES)?);
     group.add_row(ROWS[0])?;

@@ -25,6 +25,8 @@ pub enum Method {
     Group,
 }
 
+// The memory for cells, work and answers is lent to each call by itself: in a struct, each would be a loan with a fact of its own.
+
 // Lays out a sheet over the cells, makes the requests of it in order, each search by one of the card's finders, and writes an answer to each;
 // answers the pass count. Where the memory for the answers is too short, nothing is done.
 pub fn run_card<R: Reading>(

@@ -9,7 +9,7 @@ use crate::dependence::is_dependent;
 use code::limits::MAX_PLACES;
 use code::refusal::{Refusal, Section};
 
-// Whether a row has a digit beyond so many places.
+// Whether a row has a digit beyond so many places; `within` of `coset_layer` is of lengths that are no word lengths, and shared it would be no plainer.
 fn is_beyond(places: usize, row: u64) -> bool
     requires { Length places }
     ensures { result ≡ nat_le (2 ^ places) row }
