@@ -71,7 +71,7 @@ pub(crate) fn split_word(line: &[u8]) -> (&[u8], &[u8])
     }
 }
 
-// What a word says of its line.
+// What a word says of its line. As a `From` of bytes it would be no plainer: it reads text, and has one caller.
 pub(crate) fn keyword_of(word: &[u8]) -> Keyword
     ensures { result ≡ keyword_of_lem word.now }
 {

@@ -23,7 +23,7 @@ impl Model for WordLength {
 }
 
 impl WordLength {
-    // The length of so many places, or the refusal of a number that is no length.
+    // The length of so many places, or the refusal of a number that is no length. A constructor: a `TryFrom` is no plainer.
     pub fn new(places: usize) -> Result<WordLength, Refusal>
         ensures { MatchResult result (λ w. (w ≡ places) × Length w) (λ e. (e ≡ LengthOutOfRange) × (Length places → ⊥)) }
     {

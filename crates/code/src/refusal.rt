@@ -75,7 +75,7 @@ pub enum Refusal {
 }
 
 impl Refusal {
-    // The number by which the refusal is known; 21 is not used.
+    // The number by which the refusal is known; 21 is not used. A question, as a refusal holds more than its number: no `From`.
     pub fn number(self) -> u8
         ensures { result ≡ number_of self }
     {

@@ -46,7 +46,7 @@ pub trait Reading: Copy {
         requires { size self ≤ sum_limit }
         ensures { result ≡ opposite self };
 
-    // Whether this weight is below the other.
+    // Whether this weight is below the other: the derived order of a kind, with the law by which a search of any kind compares.
     fn below(self, other: Self) -> bool
         ensures { result ≡ int_lt (weight self) (weight other) };
 

@@ -31,6 +31,7 @@ fn scaled(v: f32) -> i32
 }
 
 // The label of a level: 1,024 times it with its fraction dropped; none where it is not a number from -1 to 1.
+// No `TryFrom`: both types are the library's, which alone may write it.
 // The rule is stated in units of 2^-149, of which every level is a whole number.
 pub fn label(v: f32) -> Option<i32>
     ensures value { result ≡ label_of v }

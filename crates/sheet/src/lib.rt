@@ -3,10 +3,9 @@
 mod cells;
 pub mod run;
 
-ghost use Rattle.std.specs.Prelude.{◌≡◌, ◌≤◌, List, [], length, drop, MatchResult};
+ghost use Rattle.std.specs.Prelude.{◌≡◌, [], length, drop};
 ghost use Rattle.code.specs.Limits.{max_places};
-ghost use Rattle.sheet.specs.Book.{Call};
-ghost use Rattle.sheet.specs.Stands.{Stands, Kept, PassLaw, StrikeLaw, ClearLaw, SearchLaw, BothLaw, cells_of, front};
+ghost use Rattle.sheet.specs.Stands.{Stands, PassLaw, StrikeLaw, ClearLaw, SearchLaw, BothLaw, cells_of, front};
 
 use crate::cells::{add_pass, blank, covering, lay_out};
 use code::refusal::Refusal;
