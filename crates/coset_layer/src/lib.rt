@@ -90,7 +90,8 @@ fn search_negated<R: Reading, F: Finder>(
     found
 }
 
-// Searches below for each choice of the layer's own rows; k is the number of rows below.
+// Searches below for each choice of the layer's own rows; k is the number of rows below, handed in by `search`, where a
+// wrong one is refused by a fact.
 fn search_choices<R: Reading, F: Finder>(
     below: &F,
     own: &[u64],
