@@ -3,6 +3,8 @@ use std::marker::Model;
 
 mod calls;
 
+// The four states are four types by a rule of the project, each with its own model: they differ in the invariant.
+
 // A card that takes group rows.
 #[derive(PartialEq, Eq, Debug, Drop)]
 pub struct GroupCard {

@@ -15,6 +15,7 @@ pub(crate) const SECTION_ROWS: usize = 8;
 pub(crate) const CARD_ROWS: usize = 24;
 
 // The word length and the rows of a card: group rows first, then transform rows, and the others are coset rows.
+// One list with the sizes of its sections, and not three lists, so that all rows can be lent as one slice.
 #[derive(PartialEq, Eq, Debug, Drop)]
 pub(crate) struct Table {
     len: WordLength,

@@ -114,7 +114,7 @@ fn lightest(rows: &[u64], free: u64) -> Option<u64> {
 }
 
 // Adds the rows that do not depend on those of the card, as long as the section has room.
-// A match, since `?` would hand on the two refusals that are passed over.
+// A match, since `?` would hand on the two refusals that are passed over. Other programs pass over other refusals; a library for it would be no plainer.
 fn add_independent<F: FnMut(u64) -> Result<(), Refusal>>(
     rows: &[u64],
     mut add_row: F,

@@ -9,6 +9,7 @@ use code::refusal::Refusal;
 const FRAME: usize = 4;
 
 // Writes the card's file, or refuses where it does not fit. What is written is read back as the same card.
+// The memory is lent and the answer is how many bytes were written, since the library uses no heap.
 pub fn write_card(card: &FinishedCard, out: &mut [u8]) -> Result<usize, Refusal>
     ensures answer { result ≡ wrote (file_of card.now) (length out.old) }
     ensures bytes { out.new ≡ overwritten (file_of card.now) out.old }
@@ -17,7 +18,7 @@ pub fn write_card(card: &FinishedCard, out: &mut [u8]) -> Result<usize, Refusal>
     write_file(card, out)
 }
 
-// The file, section by section.
+// The file, section by section: the call above hands on to it, so that it needs no proof file and a must-fail edit there is refused by a fact.
 fn write_file(card: &FinishedCard, out: &mut [u8]) -> Result<usize, Refusal>
     ensures answer { result ≡ wrote (file_of card.now) (length out.old) }
     ensures bytes { out.new ≡ overwritten (file_of card.now) out.old }

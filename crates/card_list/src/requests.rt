@@ -39,7 +39,8 @@ impl From<Result<(), Refusal>> for Answer {
     }
 }
 
-// Starts a card, hands it the requests in their order, and writes an answer to each. Answers how many were written;
+// Starts a card, hands it the requests in their order, and writes an answer to each, into lent memory since the library
+// uses no heap. Answers how many were written;
 // where the memory for them is too short, nothing is done. Every answer is as due from the rows taken before it.
 pub fn run_requests(
     len: WordLength,

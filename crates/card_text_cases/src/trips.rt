@@ -39,7 +39,7 @@ pub(crate) fn expect_code_e(text: &[u8]) -> anyhow::Result<()> {
     Ok(())
 }
 
-// A card of length 64 with eight rows in each section, each with one digit.
+// A card of length 64 with eight rows in each section, each with one digit. `demo` has another full card; a library for the two would be no plainer.
 fn full() -> Result<FinishedCard, Refusal> {
     let mut group = GroupCard::new(WordLength::new(64)?);
     for place in 0u32..8 {

@@ -11,6 +11,7 @@ pub fn worked_cases() -> u8
     all_cases()
 }
 
+// The public call needs no proof file so, and a must-fail edit in it is refused by a fact.
 fn all_cases() -> u8
     ensures proved { Worked }
     ensures count { result ≡ 16 }

@@ -3,7 +3,7 @@ ghost use Rattle.code.specs.RowTables.{table_back, table_count};
 
 use std::marker::Model;
 
-// Up to N rows, one after the other. Entries of the table that hold no row are 0, so equal lists of rows are equal in every field.
+// Up to N rows, one after the other: an array and a count, since the library uses no heap. Entries of the table that hold no row are 0, so equal lists of rows are equal in every field.
 #[derive(Clone, Copy, PartialEq, Eq, Debug)]
 pub struct Rows<const N: usize> {
     table: [u64; N],

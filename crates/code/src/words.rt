@@ -10,6 +10,8 @@ pub fn word_of(rows: &[u64], message: u64) -> u64
     sum_chosen(rows, message)
 }
 
+// `word_of` hands on to this, as public functions with a private one of the same contract do elsewhere: it then needs no
+// proof file, and a must-fail edit in it is refused by a fact.
 fn sum_chosen(rows: &[u64], message: u64) -> u64
     ensures value { result ≡ codeword rows.now message }
     ensures linear { (other : ℕ) → bit_xor result (codeword rows.now other) ≡ codeword rows.now (bit_xor message other) }

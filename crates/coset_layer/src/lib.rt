@@ -91,7 +91,7 @@ fn search_negated<R: Reading, F: Finder>(
 }
 
 // Searches below for each choice of the layer's own rows; k is the number of rows below, handed in by `search`, where a
-// wrong one is refused by a fact.
+// wrong one is refused by a fact; computed here it would be no plainer.
 fn search_choices<R: Reading, F: Finder>(
     below: &F,
     own: &[u64],

@@ -25,7 +25,7 @@ const WORK: usize = 2048;
 
 // The Golay code as a card: three words without a common place as the group, eight rows, and what is left as coset rows.
 // Each section leaves out the rows that it refuses: those beyond eight, and those that depend on rows already there.
-// The case program of cards does the like with other refusals; a library for it would be no plainer.
+// The case programs do the like with other refusals; a library for it would be no plainer.
 fn golay_card() -> Result<FinishedCard, Refusal> {
     let rows: [u64; 12] = array::from_fn(|shift| GOLAY.wrapping_shl(shift as u32));
     let mut group = GroupCard::new(WordLength::new(GOLAY_PLACES)?);
@@ -43,7 +43,7 @@ fn golay_card() -> Result<FinishedCard, Refusal> {
     Ok(coset.finish())
 }
 
-// A card of 24 places with a row for each place.
+// A card of 24 places with a row for each place; `card_text_cases` has another full card, and a library for the two would be no plainer.
 fn full_card() -> Result<FinishedCard, Refusal> {
     let mut group = GroupCard::new(WordLength::new(24)?);
     (0..8u32).try_for_each(|place| group.add_row(1 << place))?;

@@ -51,7 +51,7 @@ fn search_all<F: Finder>(
     Ok(())
 }
 
-// How many levels of work memory the finder F under the coset layers of a file's card needs, or 0 where the file is refused.
+// How many levels of work memory the finder F under the coset layers of a file's card needs, or 0 where the file is refused, as C reads it.
 pub(crate) fn need_with<F: OfCard + Drop>(bytes: &[u8]) -> usize
     ensures { result ≡ need_in F.OfCard.need_of (read_card_lem bytes.now) }
 {

@@ -118,7 +118,7 @@ fn fold_checked<R: Reading>(
 
 // Checks a search, and folds its word into the first `need` entries of the work memory: each reading is added to the entry of its place's slot.
 // A reading whose slot is not below the need is left out; a refusal changes nothing.
-// The five are what a fold is about, and no others hand on the same five; a struct for them would be no plainer.
+// The five are what a fold is about, and only `fold_checked` takes the same; a struct for them would be no plainer.
 pub fn fold<R: Reading>(
     word: &[R],
     length: WordLength,

@@ -35,6 +35,7 @@ pub trait Finder {
         ensures { result ≡ (meaning self.now).need };
 
     // The smallest message of greatest agreement with the word, and a reading of that weight.
+    // `Refused` takes the length and the need apart, since `fold`, which refuses, knows no rows.
     // The word is the same afterwards, and so is all work memory beyond the need; a refusal changes nothing.
     fn search<R: Reading>(&self, word: &mut [R], work: &mut [R]) -> Result<Found<R>, Refusal>
         ensures same { word.new ≡ word.old }

@@ -57,6 +57,7 @@ fn message_count(rows: usize) -> usize
 }
 
 // Folds the word by the columns of the rows, transforms the list and takes its first largest entry.
+// `sized` is the invariant of a word length, which a caller knows from its own field.
 fn search_rows<R: Reading>(
     rows: &[u64],
     span: WordLength,

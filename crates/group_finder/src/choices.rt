@@ -55,14 +55,14 @@ impl Message for () {
     }
 }
 
-// A choice of group rows: what is kept of its message, and a reading of what it gets.
+// A choice of group rows: what is kept of its message, and a reading of what it gets. `Found` of `finder` always keeps the message.
 #[derive(Clone, Copy)]
 struct Choice<M, R> {
     message: M,
     reading: R,
 }
 
-// The sum of `a` and `s`, and the difference of `b` and `s`; `butterfly` of `hadamard` is this for one left side.
+// The sum of `a` and `s`, and the difference of `b` and `s`. `butterfly` of `hadamard`, which is this for one left side, would be no plainer for calling it.
 fn plus_minus<R: Reading>(a: R, b: R, s: R) -> (R, R)
     requires { (R.Reading.size a + R.Reading.size s ≤ sum_limit) × (R.Reading.size b + R.Reading.size s ≤ sum_limit) }
     ensures sum { R.Reading.weight result.0 ≡ R.Reading.weight a +ℤ R.Reading.weight s }

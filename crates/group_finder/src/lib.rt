@@ -51,7 +51,8 @@ fn need_of(group: usize, others: usize) -> usize
 }
 
 // Folds the word into the lists of the slots, transforms each, and takes the best of all choices.
-// The need is handed in by `search`, so that each public search is a thin caller.
+// The need is handed in by `search`, where a wrong one is refused by a fact; computed here it would be no plainer. The facts of the two lists
+// stand at each function that takes them: they are slices of one list, and a struct of the two would hold the same facts as ghost fields.
 fn search_group<R: Reading>(
     group: &[u64],
     others: &[u64],

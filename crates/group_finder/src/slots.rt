@@ -65,7 +65,6 @@ pub(crate) fn transform_parts<R: Reading>(lists: &mut [R], span: usize, count: u
 {
     for q in 0..count {
         let from = q * span;
-        // Never refused: the lists are of a length 2^t and small enough.
-        let _ = transform(&mut lists[from..from + span]);
+        transform(&mut lists[from..from + span]).unwrap();
     }
 }

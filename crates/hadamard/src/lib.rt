@@ -12,6 +12,8 @@ use reading::Reading;
 // The largest exponent t of a list of 2^t readings.
 const MAX_EXPONENT: usize = 16;
 
+// The bound on the total of sizes stands at each function that takes a list: the lists are parts of a lent one, which has no type to hold it.
+
 // One step of the transform: the sum of two readings and their difference.
 pub fn butterfly<R: Reading>(a: R, b: R) -> (R, R)
     requires { R.Reading.size a + R.Reading.size b ≤ sum_limit }

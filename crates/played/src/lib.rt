@@ -42,7 +42,8 @@ fn write_digits(word: u64, levels: u64, samples: &mut [Sample])
     }
 }
 
-// Writes the code word of a message into lent samples, each digit at full level; answers how many were written.
+// Writes the code word of a message into lent samples, each digit at full level; answers how many were written. The library uses no heap.
+// `play` hands on to it, as `find_again` does to another: a public call then needs no proof file, and a must-fail edit there is refused by a fact.
 fn write_message(
     card: &FinishedCard,
     message: u64,

@@ -28,7 +28,7 @@ pub(crate) fn blank<R: Reading>() -> R
     R::make(0, 0)
 }
 
-// Sets each cell to the reading made from 0 and 0.
+// Sets each cell to the reading made from 0 and 0. `fold` of `finder` blanks its list likewise; shared, the few lines would be no plainer.
 pub(crate) fn lay_out<R: Reading>(cells: &mut [R])
     ensures { AllBlank R.Reading cells.new }
 {

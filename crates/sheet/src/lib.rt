@@ -21,6 +21,7 @@ pub struct Sheet<'a, R> {
     passes: u32,
 }
 
+// Each public call hands on to a private one of the same contract: it then needs no proof file, and a must-fail edit in it is refused by a fact.
 impl<'a, R: Reading> Sheet<'a, R> {
     // Lays out a sheet over the cells: each covered one is set to the reading made from 0 and 0, and there are no passes.
     pub fn new(cells: &'a mut [R]) -> Self

@@ -96,6 +96,9 @@ fn run_laid_out<'f, R: Reading, N: 'f, F: Finder + 'f, L: Fn(&'f N) -> &'f F>(
     sheet.passes
 }
 
+// The memory for cells, work and answers is lent to each call by itself: in a struct, each would be a loan with a fact of its own. The clauses that
+// a refusal leaves it are of the call, and no fact of a value.
+
 // Lays out a sheet over the cells, makes the requests of it in order, each search by the finder that `finder_of` gives for what the request names,
 // and writes an answer to each; answers the pass count. Its contract is the law of runs. Where the memory for the answers is too short, nothing is done.
 pub fn run_over_by<'f, R: Reading, N: 'f, F: Finder + 'f, L: Fn(&'f N) -> &'f F>(

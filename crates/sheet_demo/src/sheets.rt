@@ -30,7 +30,7 @@ fn strike(rt: &HostRuntime, sheet: &mut Sheet<Level>, place: usize) -> Result<()
     Ok(())
 }
 
-// The agreement of a code word with the readings. Like the one of the case program of finders it is written apart from what it checks.
+// The agreement of a code word with the readings. The case program of finders has another; a library for the two would be no plainer.
 fn agreement(word: u64, readings: &[Level]) -> i32 {
     (0..64).zip(readings).fold(0i32, |sum, (place, reading)| {
         if word.wrapping_shr(place) & 1 == 1 {

@@ -26,6 +26,7 @@ pub enum Method {
 }
 
 // The memory for cells, work and answers is lent to each call by itself: in a struct, each would be a loan with a fact of its own.
+// Each public call hands on to a private one of the same contract: it then needs no proof file, and a must-fail edit in it is refused by a fact.
 
 // Lays out a sheet over the cells, makes the requests of it in order, each search by one of the card's finders, and writes an answer to each;
 // answers the pass count. Where the memory for the answers is too short, nothing is done.

@@ -8,6 +8,7 @@ use code::length::WordLength;
 use code::refusal::{Refusal, Section};
 
 // The states are four types by a rule of the project, so each has a contract of its own for `add_row`.
+// The clauses `lawful` tell callers what the invariants of the types hold.
 impl GroupCard {
     // A card just started, with no rows.
     pub fn new(len: WordLength) -> GroupCard
