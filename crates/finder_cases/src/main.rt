@@ -7,7 +7,7 @@ mod trials;
 
 use anyhow::Result;
 use random::{Random, random_card};
-use trials::{Seen, try_card};
+use trials::{Seen, Trial};
 
 // How many cards, and how many words of each kind for each.
 const CARDS: u64 = 500;
@@ -19,7 +19,13 @@ fn run(rt: &HostRuntime) -> Result<()> {
     for seed in 1..=CARDS {
         let mut random = Random::new(seed);
         let card = random_card(&mut random)?;
-        try_card(rt.alloc(), &card, &mut random, WORDS, &mut seen)?;
+        let mut trial = Trial {
+            alloc: rt.alloc(),
+            card: &card,
+            random,
+            seen: &mut seen,
+        };
+        trial.try_card(WORDS)?;
     }
     println!(rt;
         "{} cards, {} words of both kinds, {} of them with several best messages",

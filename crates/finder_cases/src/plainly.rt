@@ -11,7 +11,7 @@ pub struct Due {
     pub equals: u32,
 }
 
-// The agreement of a code word with readings.
+// The agreement of a code word with readings. It is written apart from what the library computes, which it checks.
 fn agreement<R: Weighed>(word: u64, readings: &[R]) -> i64 {
     (0..64).zip(readings).fold(0i64, |sum, (place, reading)| {
         if word.wrapping_shr(place) % 2 == 1 {

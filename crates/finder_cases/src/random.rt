@@ -71,6 +71,7 @@ fn draw_group(random: &mut Random, places: usize, rows: &mut [u64]) {
 
 // Offers rows to a section while there is room, and answers how much room is left; rows that are refused are left out.
 // A loop, since a filter whose test adds rows would be no plainer.
+// Like the case program of cards and `demo` it passes over refused rows; a library for it would be no plainer.
 fn offer<A: FnMut(u64) -> Result<(), Refusal>>(rows: &[u64], room: usize, mut add_row: A) -> usize
     requires { A.IsAlwaysCallable add_row }
 {

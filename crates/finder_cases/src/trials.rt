@@ -28,114 +28,94 @@ pub struct Seen {
     pub refusals: u32,
 }
 
-// A word searched with the finder F under the coset layers of the card.
-fn try_finder<F: OfCard + Drop, R: Weighed>(
-    alloc: Global,
-    card: &FinishedCard,
-    word: &[R],
-    due: Due,
-) -> Result<()> {
-    let finder = card_finder::<F>(card);
-    tells(&finder, card.rows())?;
-    finds(alloc, &finder, word, due)
+// The trials of one card.
+#[derive(Drop)]
+pub(crate) struct Trial<'a> {
+    pub(crate) alloc: Global,
+    pub(crate) card: &'a FinishedCard,
+    pub(crate) random: Random,
+    pub(crate) seen: &'a mut Seen,
 }
 
-// A word searched with the plain finder, the group finder and one of the two, each under the coset layers of the card.
-fn try_word<R: Weighed>(
-    alloc: Global,
-    card: &FinishedCard,
-    word: &[R],
-    seen: &mut Seen,
-) -> Result<()> {
-    let due = search_all(card.rows(), word);
-    try_finder::<PlainFinder, R>(alloc, card, word, due)?;
-    try_finder::<GroupFinder, R>(alloc, card, word, due)?;
-    let either = if due.message % 2 == 0 {
-        Either::First(card_finder::<PlainFinder>(card))
-    } else {
-        Either::Second(card_finder::<GroupFinder>(card))
-    };
-    finds(alloc, &either, word, due)?;
-    seen.words = seen.words.wrapping_add(1);
-    seen.searches = seen.searches.wrapping_add(3);
-    if due.equals > 1 {
-        seen.ties = seen.ties.wrapping_add(1);
+impl<'a> Trial<'a> {
+    // A word searched with the finder F under the coset layers of the card.
+    fn try_finder<F: OfCard + Drop, R: Weighed>(&self, word: &[R], due: Due) -> Result<()> {
+        let finder = card_finder::<F>(self.card);
+        tells(&finder, self.card.rows())?;
+        finds(self.alloc, &finder, word, due)
     }
-    Ok(())
-}
 
-// The group finder under a layer whose rows may depend on others.
-fn try_layer(
-    alloc: Global,
-    card: &FinishedCard,
-    random: &mut Random,
-    word: &[Level],
-    seen: &mut Seen,
-) -> Result<()> {
-    let mut rows = card.section_rows(Section::Group).to_vec(alloc)?;
-    rows.extend_from_slice(card.section_rows(Section::Transform))?;
-    let mut layer = CosetLayer::new(GroupFinder::new(card));
-    for j in 0..4 {
-        let drawn = random.row(word.len());
-        let row = if j == 1 {
-            rows.first().copied().unwrap_or(drawn)
+    // A word searched with the plain finder, the group finder and one of the two, each under the coset layers of the card.
+    fn try_word<R: Weighed>(&mut self, word: &[R]) -> Result<()> {
+        let due = search_all(self.card.rows(), word);
+        self.try_finder::<PlainFinder, R>(word, due)?;
+        self.try_finder::<GroupFinder, R>(word, due)?;
+        let either = if due.message % 2 == 0 {
+            Either::First(card_finder::<PlainFinder>(self.card))
         } else {
-            drawn
+            Either::Second(card_finder::<GroupFinder>(self.card))
         };
-        if rows.len() < MOST_ROWS && layer.add_row(row).is_ok() {
-            rows.push(row)?;
+        finds(self.alloc, &either, word, due)?;
+        self.seen.words = self.seen.words.wrapping_add(1);
+        self.seen.searches = self.seen.searches.wrapping_add(3);
+        if due.equals > 1 {
+            self.seen.ties = self.seen.ties.wrapping_add(1);
         }
+        Ok(())
     }
-    let due = search_all(&rows, word);
-    tells(&layer, &rows)?;
-    finds(alloc, &layer, word, due)?;
-    seen.layers = seen.layers.wrapping_add(1);
-    Ok(())
-}
 
-// A word of another length, work memory one below the need, and a reading too large.
-fn try_refusals(
-    alloc: Global,
-    card: &FinishedCard,
-    random: &mut Random,
-    word: &[Level],
-    seen: &mut Seen,
-) -> Result<()> {
-    let group = card_finder::<GroupFinder>(card);
-    let half = &word[..word.len() / 2];
-    refuses(alloc, &group, half, WORK, Refusal::WordLengthDiffers)?;
-    if let Some(short) = group.need().checked_sub(1) {
-        refuses(alloc, &group, word, short, Refusal::WorkMemoryShort)?;
+    // The group finder under a layer whose rows may depend on others: the second offered is the first row of all.
+    fn try_layer(&mut self, word: &[Level]) -> Result<()> {
+        let mut rows = self.card.section_rows(Section::Group).to_vec(self.alloc)?;
+        rows.extend_from_slice(self.card.section_rows(Section::Transform))?;
+        let mut layer = CosetLayer::new(GroupFinder::new(self.card));
+        let mut offered: [u64; 4] = array::from_fn(|_| self.random.row(word.len()));
+        offered[1] = rows.first().copied().unwrap_or(offered[0]);
+        for row in offered {
+            if rows.len() < MOST_ROWS && layer.add_row(row).is_ok() {
+                rows.push(row)?;
+            }
+        }
+        let due = search_all(&rows, word);
+        tells(&layer, &rows)?;
+        finds(self.alloc, &layer, word, due)?;
+        self.seen.layers = self.seen.layers.wrapping_add(1);
+        Ok(())
     }
-    let place = random.below(card.word_length().places());
-    let mut loud = word.to_vec(alloc)?;
-    if let Some(reading) = loud.get_mut(place) {
-        *reading = Level { value: 1048577 };
-        refuses(alloc, &group, &loud, WORK, Refusal::SizeTooLarge { place })?;
-    }
-    seen.refusals = seen.refusals.wrapping_add(3);
-    Ok(())
-}
 
-// One card with so many words of each kind.
-pub(crate) fn try_card(
-    alloc: Global,
-    card: &FinishedCard,
-    random: &mut Random,
-    words: u32,
-    seen: &mut Seen,
-) -> Result<()> {
-    let places = card.word_length().places();
-    seen.cards = seen.cards.wrapping_add(1);
-    for _ in 0..words {
-        let word = level_word(random);
-        try_word(alloc, card, &word[..places], seen)?;
-        let word = two_head_word(random);
-        try_word(alloc, card, &word[..places], seen)?;
+    // A word of another length, work memory one below the need, and a reading too large.
+    fn try_refusals(&mut self, word: &[Level]) -> Result<()> {
+        let alloc = self.alloc;
+        let group = card_finder::<GroupFinder>(self.card);
+        let half = &word[..word.len() / 2];
+        refuses(alloc, &group, half, WORK, Refusal::WordLengthDiffers)?;
+        if let Some(short) = group.need().checked_sub(1) {
+            refuses(alloc, &group, word, short, Refusal::WorkMemoryShort)?;
+        }
+        let place = self.random.below(self.card.word_length().places());
+        let mut loud = word.to_vec(alloc)?;
+        if let Some(reading) = loud.get_mut(place) {
+            *reading = Level { value: 1048577 };
+            refuses(alloc, &group, &loud, WORK, Refusal::SizeTooLarge { place })?;
+        }
+        self.seen.refusals = self.seen.refusals.wrapping_add(3);
+        Ok(())
     }
-    let word = level_word(random);
-    try_layer(alloc, card, random, &word[..places], seen)?;
-    try_refusals(alloc, card, random, &word[..places], seen)
+
+    // So many words of each kind, then the layer and the refusals with one word more.
+    pub(crate) fn try_card(&mut self, words: u32) -> Result<()> {
+        let places = self.card.word_length().places();
+        self.seen.cards = self.seen.cards.wrapping_add(1);
+        for _ in 0..words {
+            let word = level_word(&mut self.random);
+            self.try_word(&word[..places])?;
+            let word = two_head_word(&mut self.random);
+            self.try_word(&word[..places])?;
+        }
+        let word = level_word(&mut self.random);
+        self.try_layer(&word[..places])?;
+        self.try_refusals(&word[..places])
+    }
 }
 
 // A function for each kind: one for both would draw two numbers for a level, and the stored output would change.
