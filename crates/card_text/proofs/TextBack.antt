@@ -1,7 +1,7 @@
 -- A card that is written as text is read back the same.
-use Rattle.std.proofs.Common.{◌≡◌, ℕ, zero, suc, ◌+◌, ◌-◌, ◌*◌, ◌/◌, ◌%◌, ◌^◌, ◌<◌, ◌≤◌, Bool, true, false, cond, ◌&&◌, eqb, ltb, leb, List, [], ◌∷◌, ◌++◌, length, get_or, take, Some, None, Ok, codes, sym, refl, ap, ◌∙◌, inl, inr, append_assoc, div-add-mod', arith}
+use Rattle.std.proofs.Common.{◌≡◌, ℕ, zero, suc, ◌+◌, ◌-◌, ◌*◌, ◌/◌, ◌%◌, ◌^◌, ◌<◌, ◌≤◌, Bool, true, false, cond, ◌&&◌, eqb, ltb, leb, List, [], ◌∷◌, ◌++◌, length, get_or, take, drop, Some, None, Ok, codes, sym, refl, ap, ◌∙◌, inl, inr, append_assoc, div-add-mod', arith}
 use native.Mathlib.Nat.{two-pow-succ}
-use Rattle.std.proofs.lemmas.List.{append-nil, get_or_past}
+use Rattle.std.proofs.lemmas.List.{append-nil, get_or_past, take_at}
 use Rattle.std.proofs.lemmas.List.Elements.{All-from_get_or}
 use Rattle.std.proofs.lemmas.List.Splits.{slice_split_at}
 use Rattle.std.specs.List.{All}
@@ -197,3 +197,9 @@ text_back k l =
     ∙ ap (λ (b : List ℕ). lines_read (taking n o₂ k₂) i₂ (lines_of b)) (sym (append-nil c_text))
     ∙ section_back n Coset c o₂ k₂ i₂ [] le₂ (within_right n t c w₂) rows.coset
     ∙ ap (λ (q : Card). lines_read (taking n o₃ q) (i₂ + length c) (lines_of [])) (with_coset n g t [] c)
+
+-- and from the memory that begins with it
+pub text_taken : (k : Card) (old new : List ℕ) (end : ℕ) → Lawful k → end ≡ length (text_of k) → new ≡ text_of k ++ drop (length (text_of k)) old
+    → read_text_lem (take end new) ≡ Ok k
+text_taken k old new end l e o =
+    ap read_text_lem (ap (take end) o ∙ take_at (text_of k) (drop (length (text_of k)) old) end (sym e)) ∙ text_back k l

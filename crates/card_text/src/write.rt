@@ -2,7 +2,8 @@ ghost use Rattle.std.specs.Prelude.{◌≡◌, ◌+◌, ◌<◌, ◌≤◌, [], 
 ghost use Rattle.card.specs.Cards.{max_section_rows};
 ghost use Rattle.card_file.specs.Files.{overwritten, wrote};
 ghost use Rattle.card_text.specs.Drafts.{read_text_lem};
-ghost use Rattle.card_text.specs.Texts.{decimal_text, digits_of, length_line, over, row_line, section_text, text_of};
+ghost use Rattle.card_text.specs.Texts.{decimal_text, digits_of, length_line, row_line, section_text, text_of};
+ghost use Rattle.card_text.specs.Writers.{HasRoom, Wrote};
 
 use crate::line::{LENGTH, SPACE, ZERO, word_of};
 use card::states::FinishedCard;
@@ -44,11 +45,15 @@ fn write_lines(card: &FinishedCard, out: &mut [u8]) -> Result<usize, Refusal>
     if out.len() < length_size(len) + rows {
         return Err(Refusal::OutputShort);
     }
-    let after_length = write_length(out, len);
-    let after_group = write_rows(out, after_length, Section::Group, len, group);
-    let after_transform = write_rows(out, after_group, Section::Transform, len, transform);
-    let end = write_rows(out, after_transform, Section::Coset, len, coset);
-    Ok(end)
+    let mut writer = TextWriter {
+        memory: out,
+        end: 0,
+    };
+    writer.write_length(len);
+    writer.write_rows(Section::Group, len, group);
+    writer.write_rows(Section::Transform, len, transform);
+    writer.write_rows(Section::Coset, len, coset);
+    Ok(writer.end)
 }
 
 // How many bytes the line of the length takes.
@@ -71,86 +76,86 @@ fn rows_size(section: Section, len: WordLength, rows: &[u64]) -> usize
     rows.len() * (word_of(section).len() + SPACE_SIZE + len.places() + LINE_END)
 }
 
-// Writes bytes from `at` on, and tells where they end, as the writers below do too: the memory is lent, and the answer
-// is how many bytes were written.
-fn write_bytes(out: &mut [u8], at: usize, bytes: &[u8]) -> usize
-    requires { at + length bytes.now ≤ length out.old }
-    ensures end { result ≡ at + length bytes.now }
-    ensures bytes { out.new ≡ over at bytes.now out.old }
-{
-    let end = at + bytes.len();
-    out[at..end].copy_from_slice(bytes);
-    end
+// The memory lent for a text, and where the text written so far ends in it.
+#[derive(Drop)]
+struct TextWriter<'a> {
+    memory: &'a mut [u8],
+    end: usize,
 }
 
-// Writes the word that a line begins with, and a space.
-fn write_word(out: &mut [u8], at: usize, word: &[u8]) -> usize
-    requires { at + length word.now + 1 ≤ length out.old }
-    ensures end { result ≡ at + length word.now + 1 }
-    ensures bytes { out.new ≡ over at (word.now ++ 32 ∷ []) out.old }
-{
-    let end = write_bytes(out, at, word);
-    write_bytes(out, end, &[SPACE])
-}
-
-// Writes the line of the length at the beginning.
-fn write_length(out: &mut [u8], len: WordLength) -> usize
-    requires { length (length_line len) ≤ length out.old }
-    ensures end { result ≡ length (length_line len) }
-    ensures bytes { out.new ≡ over 0 (length_line len) out.old }
-{
-    let word = write_word(out, 0, LENGTH);
-    let number = write_decimal(out, word, len.places());
-    write_bytes(out, number, b"\n")
-}
-
-// Writes a number in one or two decimal digits.
-fn write_decimal(out: &mut [u8], at: usize, number: usize) -> usize
-    requires small { number < 100 }
-    requires room { at + length (decimal_text number) ≤ length out.old }
-    ensures end { result ≡ at + length (decimal_text number) }
-    ensures bytes { out.new ≡ over at (decimal_text number) out.old }
-{
-    let last = ZERO + (number % TEN) as u8;
-    if number < TEN {
-        return write_bytes(out, at, &[last]);
+impl<'a> TextWriter<'a> {
+    // Writes bytes after those written so far, as the writers below do too.
+    fn write_bytes(&mut self, bytes: &[u8])
+        requires { HasRoom bytes.now self.old }
+        ensures { Wrote bytes.now self.old self.new }
+    {
+        let end = self.end + bytes.len();
+        self.memory[self.end..end].copy_from_slice(bytes);
+        self.end = end;
     }
-    write_bytes(out, at, &[ZERO + (number / TEN) as u8, last])
-}
 
-// Writes the lines of a section.
-fn write_rows(out: &mut [u8], at: usize, section: Section, len: WordLength, rows: &[u64]) -> usize
-    requires { at + length (section_text section len rows.now) ≤ length out.old }
-    ensures end { result ≡ at + length (section_text section len rows.now) }
-    ensures bytes { out.new ≡ over at (section_text section len rows.now) out.old }
-{
-    let mut end = at;
-    for row in rows {
-        end = write_row(out, end, section, len, *row);
+    // Writes the word that a line begins with, and a space.
+    fn write_word(&mut self, word: &[u8])
+        requires { HasRoom (word.now ++ 32 ∷ []) self.old }
+        ensures { Wrote (word.now ++ 32 ∷ []) self.old self.new }
+    {
+        self.write_bytes(word);
+        self.write_bytes(&[SPACE]);
     }
-    end
-}
 
-// Writes the line of a row.
-fn write_row(out: &mut [u8], at: usize, section: Section, len: WordLength, row: u64) -> usize
-    requires { at + length (row_line section len row) ≤ length out.old }
-    ensures end { result ≡ at + length (row_line section len row) }
-    ensures bytes { out.new ≡ over at (row_line section len row) out.old }
-{
-    let word = write_word(out, at, word_of(section));
-    let digits = write_digits(out, word, len, row);
-    write_bytes(out, digits, b"\n")
-}
+    // Writes the line of the length.
+    fn write_length(&mut self, len: WordLength)
+        requires { HasRoom (length_line len) self.old }
+        ensures { Wrote (length_line len) self.old self.new }
+    {
+        self.write_word(LENGTH);
+        self.write_decimal(len.places());
+        self.write_bytes(b"\n");
+    }
 
-// Writes the first digits of a row, place 0 first.
-fn write_digits(out: &mut [u8], at: usize, len: WordLength, row: u64) -> usize
-    requires { at + length (digits_of len row) ≤ length out.old }
-    ensures end { result ≡ at + length (digits_of len row) }
-    ensures bytes { out.new ≡ over at (digits_of len row) out.old }
-{
-    let end = at + len.places();
-    fill_digits(&mut out[at..end], row);
-    end
+    // Writes a number in one or two decimal digits.
+    fn write_decimal(&mut self, number: usize)
+        requires small { number < 100 }
+        requires room { HasRoom (decimal_text number) self.old }
+        ensures { Wrote (decimal_text number) self.old self.new }
+    {
+        let last = ZERO + (number % TEN) as u8;
+        if number < TEN {
+            self.write_bytes(&[last]);
+        } else {
+            self.write_bytes(&[ZERO + (number / TEN) as u8, last]);
+        }
+    }
+
+    // Writes the lines of a section.
+    fn write_rows(&mut self, section: Section, len: WordLength, rows: &[u64])
+        requires { HasRoom (section_text section len rows.now) self.old }
+        ensures { Wrote (section_text section len rows.now) self.old self.new }
+    {
+        for row in rows {
+            self.write_row(section, len, *row);
+        }
+    }
+
+    // Writes the line of a row.
+    fn write_row(&mut self, section: Section, len: WordLength, row: u64)
+        requires { HasRoom (row_line section len row) self.old }
+        ensures { Wrote (row_line section len row) self.old self.new }
+    {
+        self.write_word(word_of(section));
+        self.write_digits(len, row);
+        self.write_bytes(b"\n");
+    }
+
+    // Writes the first digits of a row, place 0 first.
+    fn write_digits(&mut self, len: WordLength, row: u64)
+        requires { HasRoom (digits_of len row) self.old }
+        ensures { Wrote (digits_of len row) self.old self.new }
+    {
+        let end = self.end + len.places();
+        fill_digits(&mut self.memory[self.end..end], row);
+        self.end = end;
+    }
 }
 
 // Fills memory with the digits of a row.
