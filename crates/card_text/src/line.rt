@@ -8,7 +8,7 @@ use crate::fault::Problem;
 use code::length::WordLength;
 use code::refusal::Section;
 
-// The first word of a line.
+// The first word of a line. `Unknown` is a variant, since with an `Option` of the other two one match would become two.
 #[derive(Clone, Copy)]
 pub(crate) enum Keyword {
     Length,

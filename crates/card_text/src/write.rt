@@ -29,7 +29,7 @@ pub fn write_text(card: &FinishedCard, out: &mut [u8]) -> Result<usize, Refusal>
     write_lines(card, out)
 }
 
-// The text, line by line.
+// The text, line by line. `write_text` hands on to it, so that it needs no proof file and a must-fail edit there is refused by a fact.
 fn write_lines(card: &FinishedCard, out: &mut [u8]) -> Result<usize, Refusal>
     ensures answer { result ≡ wrote (text_of card.now) (length out.old) }
     ensures bytes { out.new ≡ overwritten (text_of card.now) out.old }
