@@ -33,6 +33,12 @@ impl<'a, R: Reading> Sheet<'a, R> {
     pub fn serve<F: Finder>(&mut self, request: &Request<F>, work: &mut [R]) -> Answer<R>
         ensures { Served R.Reading F.Finder.meaning (length work.old) self.old self.new request.now work.old work.new result }
     {
+        self.serve_lent(request, work)
+    }
+
+    fn serve_lent<F: Finder>(&mut self, request: &Request<F>, work: &mut [R]) -> Answer<R>
+        ensures { Served R.Reading F.Finder.meaning (length work.old) self.old self.new request.now work.old work.new result }
+    {
         self.serve_by(request, &|finder| finder, work)
     }
 
@@ -123,6 +129,20 @@ pub fn run_over_by<'f, R: Reading, N: 'f, F: Finder + 'f, L: Fn(&'f N) -> &'f F>
 
 // The same where each request lends its finder.
 pub fn run_over<R: Reading, F: Finder>(
+    cells: &mut [R],
+    requests: &[Request<F>],
+    work: &mut [R],
+    answers: &mut [Answer<R>],
+) -> Result<u32, Refusal>
+    ensures law { MatchResult result
+        (λ count. RanOver R.Reading F.Finder.meaning requests.now count cells.old cells.new work.old work.new answers.old answers.new)
+        (λ e. (e ≡ OutputShort) × (length answers.old < length requests.now)) }
+    ensures refused { MatchResult result (λ _. length requests.now ≤ length answers.old) (λ _. (cells.new ≡ cells.old) × (work.new ≡ work.old) × (answers.new ≡ answers.old)) }
+{
+    run_over_lent(cells, requests, work, answers)
+}
+
+fn run_over_lent<R: Reading, F: Finder>(
     cells: &mut [R],
     requests: &[Request<F>],
     work: &mut [R],
