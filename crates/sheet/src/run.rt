@@ -36,6 +36,7 @@ impl<'a, R: Reading> Sheet<'a, R> {
         self.serve_lent(request, work)
     }
 
+    // The public call needs no proof file so, and a must-fail edit in it is refused by a fact.
     fn serve_lent<F: Finder>(&mut self, request: &Request<F>, work: &mut [R]) -> Answer<R>
         ensures { Served R.Reading F.Finder.meaning (length work.old) self.old self.new request.now work.old work.new result }
     {
@@ -142,6 +143,7 @@ pub fn run_over<R: Reading, F: Finder>(
     run_over_lent(cells, requests, work, answers)
 }
 
+// The public call needs no proof file so, and a must-fail edit in it is refused by a fact.
 fn run_over_lent<R: Reading, F: Finder>(
     cells: &mut [R],
     requests: &[Request<F>],
