@@ -28,6 +28,7 @@ impl OpenCard {
     pub fn new(len: WordLength) -> OpenCard
         ensures card { shown result ≡ blank len }
         ensures section { open_of result ≡ Group }
+        ensures lawful { Lawful (shown result) }
     {
         OpenCard::InGroup(GroupCard::new(len))
     }
@@ -51,6 +52,7 @@ impl OpenCard {
         ensures section { open_of self.new ≡ open_of self.old }
         ensures refused { OnErr result (self.new ≡ self.old) }
         ensures last { OnOk result (rows_of (shown self.new) ≡ rows_of (shown self.old) ++ row ∷ []) }
+        ensures none_after { NoneAfter (shown self.new) (open_of self.new) }
         ensures lawful { Lawful (shown self.new) }
     {
         match self {
@@ -65,6 +67,7 @@ impl OpenCard {
         ensures card { card_in result ≡ shown self }
         ensures section { open_in result ≡ section_after (open_of self) }
         ensures none_after { NoneAfter (shown self) (open_of self) }
+        ensures lawful { Lawful (card_in result) }
     {
         match self {
             OpenCard::InGroup(card) => AnyCard::Open(OpenCard::InTransform(card.close_group())),
@@ -75,7 +78,8 @@ impl OpenCard {
 
     // The same card, taking no more rows.
     pub fn finish(self) -> FinishedCard
-        ensures { result ≡ shown self }
+        ensures card { result ≡ shown self }
+        ensures lawful { Lawful result }
     {
         match self {
             OpenCard::InGroup(card) => card.close_group().close_transform().finish(),
@@ -88,11 +92,15 @@ impl OpenCard {
 impl AnyCard {
     // The same card, taking no more rows.
     pub fn finish(self) -> FinishedCard
-        ensures { result ≡ card_in self }
+        ensures card { result ≡ card_in self }
+        ensures lawful { Lawful result }
     {
-        match self {
+        let finished = match self {
             AnyCard::Open(card) => card.finish(),
             AnyCard::Finished(card) => card,
-        }
+        };
+        // The call shows that the card is lawful.
+        let _ = finished.word_length();
+        finished
     }
 }

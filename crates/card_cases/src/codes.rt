@@ -2,8 +2,11 @@
 use card::states::{FinishedCard, GroupCard};
 use code::length::WordLength;
 use code::refusal::Refusal;
+use code::rows::Rows;
 use code::words::word_of;
-use std::alloc::{AllocError, Global};
+
+// The most rows of a code here.
+const MOST_ROWS: usize = 16;
 
 // How the rows of a code are made.
 #[derive(Clone, Copy)]
@@ -71,11 +74,24 @@ pub(crate) const CODES: [Code; 8] = [
 ];
 
 // The multiples of a polynomial by the first k powers.
-fn shifts(alloc: Global, k: usize, exponents: &[u32]) -> Result<Vec<u64>, AllocError> {
+fn shifts(k: usize, exponents: &[u32]) -> Rows<MOST_ROWS> {
     let generator = exponents
         .iter()
         .fold(0u64, |word, exponent| word | 1 << (*exponent % 64));
-    (0..k).map(|i| generator << (i % 64)).collect(alloc)
+    let mut rows = Rows::new();
+    for word in (0..k).map(|i| generator << (i % 64)) {
+        rows.push(word);
+    }
+    rows
+}
+
+// The rows, with a place more that makes the number of digits 1 even.
+fn extended(rows: &[u64]) -> Rows<MOST_ROWS> {
+    let mut longer = Rows::new();
+    for row in rows {
+        longer.push(*row | u64::from(row.count_ones() % 2) << 23);
+    }
+    longer
 }
 
 // The digit of a monomial at a point: 1 where all its variables are 1.
@@ -85,22 +101,23 @@ fn monomial(variables: u64) -> u64 {
         .fold(0, |word, point| word | 1 << (point % 64))
 }
 
+// The monomials of at most so many of five variables.
+fn monomials(order: u32) -> Rows<MOST_ROWS> {
+    let mut rows = Rows::new();
+    let few = (0u64..32).filter(|variables| variables.count_ones() <= order);
+    for word in few.map(monomial) {
+        rows.push(word);
+    }
+    rows
+}
+
 impl Code {
-    // The rows of the code.
-    pub(crate) fn rows(&self, alloc: Global) -> Result<Vec<u64>, AllocError> {
+    // The rows of the code: `Rows`, so that the program needs no heap.
+    pub(crate) fn rows(&self) -> Rows<MOST_ROWS> {
         match self.construction {
-            Construction::Cyclic(k, exponents) => shifts(alloc, k, exponents),
-            Construction::Extended(k, exponents) => {
-                let mut rows = shifts(alloc, k, exponents)?;
-                for row in rows.iter_mut() {
-                    *row |= u64::from(row.count_ones() % 2) << 23;
-                }
-                Ok(rows)
-            }
-            Construction::ReedMuller(order) => (0u64..32)
-                .filter(|variables| variables.count_ones() <= order)
-                .map(monomial)
-                .collect(alloc),
+            Construction::Cyclic(k, exponents) => shifts(k, exponents),
+            Construction::Extended(k, exponents) => extended(shifts(k, exponents).as_slice()),
+            Construction::ReedMuller(order) => monomials(order),
         }
     }
 }

@@ -4,8 +4,11 @@ use card::open::{AnyCard, OpenCard};
 use card::states::GroupCard;
 use code::length::WordLength;
 use code::refusal::Refusal;
+use code::rows::Rows;
 use code::words::word_of;
-use std::alloc::Global;
+
+// The most rows that the plain searches go through.
+const MOST: usize = 12;
 
 // How many rows were tried, and how many were refused by the check that is looked at.
 #[derive(Clone, Copy)]
@@ -50,7 +53,7 @@ fn breaks(rows: &[u64], row: u64) -> bool {
 
 // Compares the answer to a row with the search, where `broken` says whether the row breaks the concurrence of the group.
 fn judge(
-    taken: &mut Vec<u64>,
+    taken: &mut Rows<MOST>,
     row: u64,
     broken: bool,
     answer: Result<(), Refusal>,
@@ -59,7 +62,7 @@ fn judge(
     match answer {
         Ok(()) => {
             ensure!(!sum && !broken, "row {row} was taken");
-            taken.push(row)?;
+            taken.push(row);
         }
         Err(Refusal::DependentRow { .. }) => ensure!(sum, "row {row} is no sum"),
         Err(Refusal::ConcurrenceBroken { .. }) => {
@@ -72,8 +75,8 @@ fn judge(
 
 // Tries a row at most `tries` times, as long as the card has fewer than `most` rows. `try_row` makes a row, hands it to
 // the card, and tells whether it was refused by the check that is looked at.
-fn try_rows<F: FnMut(&mut Vec<u64>) -> anyhow::Result<bool>>(
-    taken: &mut Vec<u64>,
+fn try_rows<F: FnMut(&mut Rows<MOST>) -> anyhow::Result<bool>>(
+    taken: &mut Rows<MOST>,
     tries: u32,
     most: usize,
     seen: &mut Seen,
@@ -82,7 +85,7 @@ fn try_rows<F: FnMut(&mut Vec<u64>) -> anyhow::Result<bool>>(
     requires { F.IsAlwaysCallable try_row }
 {
     for _ in 0..tries {
-        if taken.len() < most {
+        if taken.as_slice().len() < most {
             seen.note(try_row(taken)?);
         }
     }
@@ -90,12 +93,12 @@ fn try_rows<F: FnMut(&mut Vec<u64>) -> anyhow::Result<bool>>(
 }
 
 // Rows of one length, added to the transform section until it is full and then to the coset section.
-fn dependence_at(alloc: Global, places: usize, seed: u64, seen: &mut Seen) -> anyhow::Result<()> {
-    let mut taken = Vec::new(alloc);
+fn dependence_at(places: usize, seed: u64, seen: &mut Seen) -> anyhow::Result<()> {
+    let mut taken = Rows::new();
     let mut state = seed;
     let group = GroupCard::new(WordLength::new(places)?);
     let mut card = OpenCard::InTransform(group.close_group());
-    for (tries, most) in [(12, 8), (8, 12)] {
+    for (tries, most) in [(12, 8), (8, MOST)] {
         try_rows(&mut taken, tries, most, seen, |taken| {
             state = next(state);
             let row = high(state, places);
@@ -112,8 +115,8 @@ fn dependence_at(alloc: Global, places: usize, seed: u64, seen: &mut Seen) -> an
 }
 
 // Group rows of few digits 1.
-fn concurrence_at(alloc: Global, places: usize, seed: u64, seen: &mut Seen) -> anyhow::Result<()> {
-    let mut taken = Vec::new(alloc);
+fn concurrence_at(places: usize, seed: u64, seen: &mut Seen) -> anyhow::Result<()> {
+    let mut taken = Rows::new();
     let mut state = seed;
     let mut group = GroupCard::new(WordLength::new(places)?);
     try_rows(&mut taken, 40, 8, seen, |taken| {
@@ -147,15 +150,11 @@ fn trials<F: FnMut(usize, u64, &mut Seen) -> anyhow::Result<()>>(
 }
 
 // Rows of 5 to 14 places beside the search over all choices of the rows on the card.
-pub(crate) fn dependence(alloc: Global) -> anyhow::Result<Seen> {
-    trials(5, |places, seed, seen| {
-        dependence_at(alloc, places, seed, seen)
-    })
+pub(crate) fn dependence() -> anyhow::Result<Seen> {
+    trials(5, dependence_at)
 }
 
 // Rows of 3 to 12 places beside the count at every place.
-pub(crate) fn concurrence(alloc: Global) -> anyhow::Result<Seen> {
-    trials(3, |places, seed, seen| {
-        concurrence_at(alloc, places, seed, seen)
-    })
+pub(crate) fn concurrence() -> anyhow::Result<Seen> {
+    trials(3, concurrence_at)
 }

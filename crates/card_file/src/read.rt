@@ -1,7 +1,7 @@
 ghost use Rattle.std.specs.Prelude.{◌≡◌, Ok, Err, MatchResult, OnErr};
 ghost use Rattle.code.specs.declared.refusal.Section.{Section};
 ghost use Rattle.code.specs.declared.refusal.Section.TheVariants.{Group, Transform, Coset};
-ghost use Rattle.card.specs.Cards.{added, Card, verdict};
+ghost use Rattle.card.specs.Cards.{added, Card, Lawful, verdict};
 ghost use Rattle.card_file.specs.FileRows.{RowsAsAdded};
 ghost use Rattle.card_file.specs.Files.{noted, read_card_lem, read_rows_lem, read_section_lem, read_sections_lem, refilled};
 
@@ -73,13 +73,18 @@ impl TakesRows for CosetCard {
 
 // Fills the card from a file, or turns the file down and leaves the card as it was. The rows of the file stand as rows
 // added to a card just started.
+#[tactic(auto, using(crate::proofs::RowsAdded::rows_as_added))]
 pub fn read_card(bytes: &[u8], into: &mut FinishedCard) -> Result<(), Refusal>
     ensures answer { result ≡ noted (read_card_lem bytes.now) }
     ensures card { into.new ≡ refilled (read_card_lem bytes.now) into.old }
     ensures refused { OnErr result (into.new ≡ into.old) }
     ensures rows { RowsAsAdded bytes.now }
+    ensures lawful { Lawful into.new }
 {
+    // The calls show that the card is lawful, the one lent and the one read.
+    let _ = into.word_length();
     let card = read_file(bytes)?;
+    let _ = card.word_length();
     *into = card;
     Ok(())
 }

@@ -24,7 +24,7 @@ due_told k s row r t = record {
   taken = λ h f out good. ap answered (t.taken h f out good);
 }
 
-same_view : {n n' : ℕ} {o o' : Option Section} {h h' a a' : List ℕ} → n ≡ n' → o ≡ o' → h ≡ h' → a ≡ a'
+pub same_view : {n n' : ℕ} {o o' : Option Section} {h h' a a' : List ℕ} → n ≡ n' → o ≡ o' → h ≡ h' → a ≡ a'
     → ◌≡◌ {A = View} (record { len = n; open_section = o; here = h; all = a }) (record { len = n'; open_section = o'; here = h'; all = a' })
 same_view p q r t i = record { len = p i; open_section = q i; here = r i; all = t i }
 

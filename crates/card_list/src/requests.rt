@@ -2,7 +2,9 @@
 ghost use Rattle.std.specs.Prelude.{◌≡◌, ◌<◌, ◌≤◌, length, drop, Some, IfOk, MatchResult};
 ghost use Rattle.code.specs.declared.refusal.Refusal.TheVariants.{OutputShort};
 ghost use Rattle.card.specs.declared.open.AnyCard.TheVariants.{Open};
+ghost use Rattle.card.specs.Cards.{Lawful};
 ghost use Rattle.card.specs.OpenCards.{card_in, open_in, open_of, shown};
+ghost use Rattle.card_list.specs.declared.requests.Request.TheVariants.{AddRow};
 ghost use Rattle.card_list.specs.Requests.{afterwards, answered, card_after, DueIn, OwnList, put_into, row_taken, view_of};
 
 use card::open::{AnyCard, OpenCard};
@@ -63,6 +65,7 @@ pub fn build_card(
 ) -> Result<FinishedCard, Refusal>
     ensures law { MatchResult result (λ _. OwnList len requests.now answers.new) (λ _. answers.new ≡ answers.old) }
     ensures card { IfOk result (λ k. k ≡ card_after len requests.now answers.new) }
+    ensures lawful { IfOk result (λ k. Lawful k) }
     ensures room { MatchResult result (λ _. length requests.now ≤ length answers.old) (λ e. (e ≡ OutputShort) × (length answers.old < length requests.now)) }
     ensures beyond { drop (length requests.now) answers.new ≡ drop (length requests.now) answers.old }
 {
@@ -103,16 +106,23 @@ fn answer_one(card: AnyCard, request: Request) -> (AnyCard, Answer)
 }
 
 // The same of a card with an open section.
-fn answer_open(mut card: OpenCard, request: Request) -> (AnyCard, Answer)
+fn answer_open(card: OpenCard, request: Request) -> (AnyCard, Answer)
     ensures due { DueIn (view_of (Open card)) request result.1 }
     ensures view { view_of result.0 ≡ afterwards (view_of (Open card)) request result.1 }
     ensures card { card_in result.0 ≡ put_into (Some (open_of card)) (shown card) (row_taken request result.1) }
 {
     match request {
         Request::MoveOn => (card.move_on(), Answer::Moved),
-        Request::AddRow { row } => {
-            let answer = Answer::from(card.add_row(row));
-            (AnyCard::Open(card), answer)
-        }
+        Request::AddRow { row } => answer_row(card, row),
     }
+}
+
+// The same of a row that is handed to it.
+fn answer_row(mut card: OpenCard, row: u64) -> (AnyCard, Answer)
+    ensures due { DueIn (view_of (Open card)) (AddRow row) result.1 }
+    ensures view { view_of result.0 ≡ afterwards (view_of (Open card)) (AddRow row) result.1 }
+    ensures card { card_in result.0 ≡ put_into (Some (open_of card)) (shown card) (row_taken (AddRow row) result.1) }
+{
+    let answer = Answer::from(card.add_row(row));
+    (AnyCard::Open(card), answer)
 }

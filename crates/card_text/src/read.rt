@@ -1,4 +1,5 @@
 ghost use Rattle.std.specs.Prelude.{◌≡◌, IfOk, OnErr, OnOk};
+ghost use Rattle.card.specs.Cards.{Lawful};
 ghost use Rattle.card_text.specs.Lines.{trimmed};
 ghost use Rattle.card_text.specs.Sayings.{card_says, text_says};
 ghost use Rattle.card_text.specs.Drafts.{in_line, line_read, noted, read_text_lem, refilled};
@@ -15,8 +16,12 @@ pub fn read_text(bytes: &[u8], into: &mut FinishedCard) -> Result<(), TextFault>
     ensures card { into.new ≡ refilled (read_text_lem bytes.now) into.old }
     ensures refused { OnErr result (into.new ≡ into.old) }
     ensures says { OnOk result (text_says bytes.now ≡ card_says into.new) }
+    ensures lawful { Lawful into.new }
 {
+    // The calls show that the card is lawful, the one lent and the one read.
+    let _ = into.word_length();
     let card = read_lines(bytes)?;
+    let _ = card.word_length();
     *into = card;
     Ok(())
 }

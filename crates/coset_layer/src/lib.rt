@@ -208,6 +208,7 @@ impl<F: Finder> CosetLayer<F> {
         ensures rows { MatchResult result
             (λ _. (layer_meaning F.Finder.meaning self.new).rows ≡ (layer_meaning F.Finder.meaning self.old).rows ++ row ∷ [])
             (λ _. Unit {0}) }
+        ensures few { length self.new.own ≤ layer_rows }
     {
         let n = self.below.length().places();
         let k = self.below.row_count();

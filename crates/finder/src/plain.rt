@@ -61,16 +61,17 @@ fn message_count(rows: usize) -> usize
 fn search_rows<R: Reading>(
     rows: &[u64],
     span: WordLength,
+    need: usize,
     word: &[R],
     work: &mut [R],
 ) -> Result<Found<R>, Refusal>
     requires sized { Length span }
     requires few { length rows.now ≤ column_rows }
+    requires room { need ≡ 2 ^ length rows.now }
     ensures { MatchResult result
-        (Answered R.Reading (record { span = span; rows = rows.now; need = 2 ^ length rows.now }) word.now work.old work.new)
-        (Refused R.Reading.size span (2 ^ length rows.now) word.now work.old work.new) }
+        (Answered R.Reading (record { span = span; rows = rows.now; need = need }) word.now work.old work.new)
+        (Refused R.Reading.size span need word.now work.old work.new) }
 {
-    let need = message_count(rows.len());
     let slots = columns(rows, span);
     fold(word, span, &slots, need, work)?;
     let list = &mut work[0..need];
@@ -130,6 +131,6 @@ impl Finder for PlainFinder {
     }
 
     fn search<R: Reading>(&self, word: &mut [R], work: &mut [R]) -> Result<Found<R>, Refusal> {
-        search_rows(self.rows(), self.span, word, work)
+        search_rows(self.rows(), self.span, self.need(), word, work)
     }
 }

@@ -1,6 +1,6 @@
 // Each finder beside the plain search.
 use crate::plainly::Due;
-use anyhow::{Result, ensure};
+use anyhow::{Result, anyhow, ensure};
 use code::refusal::Refusal;
 use finder::Finder;
 use finder::found::Found;
@@ -38,6 +38,11 @@ impl Weighed for TwoHead {
     }
 }
 
+// What is said where there is no memory left.
+pub(crate) fn no_memory<E: Drop>(_error: E) -> anyhow::Error {
+    anyhow!("Memory")
+}
+
 // Searches a word in marked work memory of so many readings, and gives that memory too; the word is the same afterwards.
 fn search_marked<R: Weighed, F: Finder>(
     alloc: Global,
@@ -45,8 +50,8 @@ fn search_marked<R: Weighed, F: Finder>(
     word: &[R],
     room: usize,
 ) -> Result<(Result<Found<R>, Refusal>, Vec<R>)> {
-    let mut work = vec![in alloc; R::MARK; room]?;
-    let mut lent = word.to_vec(alloc)?;
+    let mut work = vec![in alloc; R::MARK; room].map_err(no_memory)?;
+    let mut lent = word.to_vec(alloc).map_err(no_memory)?;
     let answer = finder.search(&mut lent, &mut work);
     ensure!(lent.as_slice() == word);
     Ok((answer, work))

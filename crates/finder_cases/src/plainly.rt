@@ -14,10 +14,11 @@ pub struct Due {
 // The agreement of a code word with readings. It is written apart from what the library computes, which it checks.
 fn agreement<R: Weighed>(word: u64, readings: &[R]) -> i64 {
     (0..64).zip(readings).fold(0i64, |sum, (place, reading)| {
+        let weight = reading.weighed();
         if word.wrapping_shr(place) % 2 == 1 {
-            sum.wrapping_sub(reading.weighed())
+            sum.wrapping_sub(weight)
         } else {
-            sum.wrapping_add(reading.weighed())
+            sum.wrapping_add(weight)
         }
     })
 }

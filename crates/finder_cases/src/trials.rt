@@ -1,5 +1,5 @@
 // One card: its finders, words and refusals.
-use crate::compare::{WORK, Weighed, finds, refuses, tells};
+use crate::compare::{WORK, Weighed, finds, no_memory, refuses, tells};
 use crate::plainly::{Due, search_all};
 use crate::random::{MOST_ROWS, Random};
 use anyhow::Result;
@@ -66,14 +66,19 @@ impl<'a> Trial<'a> {
 
     // The group finder under a layer whose rows may depend on others: the second offered is the first row of all.
     fn try_layer(&mut self, word: &[Level]) -> Result<()> {
-        let mut rows = self.card.section_rows(Section::Group).to_vec(self.alloc)?;
-        rows.extend_from_slice(self.card.section_rows(Section::Transform))?;
+        let mut rows = self
+            .card
+            .section_rows(Section::Group)
+            .to_vec(self.alloc)
+            .map_err(no_memory)?;
+        rows.extend_from_slice(self.card.section_rows(Section::Transform))
+            .map_err(no_memory)?;
         let mut layer = CosetLayer::new(GroupFinder::new(self.card));
         let mut offered: [u64; 4] = array::from_fn(|_| self.random.row(word.len()));
         offered[1] = rows.first().copied().unwrap_or(offered[0]);
         for row in offered {
             if rows.len() < MOST_ROWS && layer.add_row(row).is_ok() {
-                rows.push(row)?;
+                rows.push(row).map_err(no_memory)?;
             }
         }
         let due = search_all(&rows, word);
@@ -93,7 +98,7 @@ impl<'a> Trial<'a> {
             refuses(alloc, &group, word, short, Refusal::WorkMemoryShort)?;
         }
         let place = self.random.below(self.card.word_length().places());
-        let mut loud = word.to_vec(alloc)?;
+        let mut loud = word.to_vec(alloc).map_err(no_memory)?;
         if let Some(reading) = loud.get_mut(place) {
             *reading = Level { value: 1048577 };
             refuses(alloc, &group, &loud, WORK, Refusal::SizeTooLarge { place })?;

@@ -1,4 +1,4 @@
-ghost use Rattle.std.specs.Prelude.{◌≡◌, ℕ, ◌+◌, ◌*◌, ◌^◌, ◌<◌, ◌≤◌, max, min, length, ◌+ℤ◌, ◌<ℤ◌, neg_ℤ, true, false};
+ghost use Rattle.std.specs.Prelude.{◌≡◌, ℕ, ◌+◌, ◌*◌, ◌^◌, ◌<◌, ◌≤◌, ◌⊎◌, max, min, length, ◌+ℤ◌, ◌<ℤ◌, neg_ℤ, true, false};
 ghost use Rattle.card.specs.Cards.{max_section_rows};
 ghost use Rattle.code.specs.Limits.{sum_limit};
 ghost use Rattle.code.specs.Words.{Top};
@@ -103,6 +103,7 @@ fn better<M: Message, R: Reading>(a: Choice<M, R>, b: Choice<M, R>) -> Choice<M,
     ensures tie { R.Reading.weight a.reading ≡ R.Reading.weight b.reading → R.Reading.weight result.reading ≡ R.Reading.weight a.reading }
     ensures smaller { R.Reading.weight a.reading ≡ R.Reading.weight b.reading → (m n : ℕ) → M.Message.keeps a.message m → M.Message.keeps b.message n → M.Message.keeps result.message (min m n) }
     ensures sized { R.Reading.size result.reading ≤ max (R.Reading.size a.reading) (R.Reading.size b.reading) }
+    ensures one { (result ≡ a) ⊎ (result ≡ b) }
 {
     if a.reading.below(b.reading) {
         return b;

@@ -19,7 +19,7 @@ module _ {R : Type 0} (kind : Kind R) (h k : ℕ) (old cur : List R) (long : len
     at_else : (j : ℕ) → j ≢ k → j ≢ h + k → get_or (map f (set (set cur k s) (h + k) d)) j e ≡ get_or (map f cur) j e
     at_else j n m = other_at f (set cur k s) (h + k) j d e m ∙ other_at f cur k j s e n
 
-  cross_step : (inv : Crossed kind h k old cur) (s d : R) → kind.weight s ≡ weight_at kind.weight old k +ℤ weight_at kind.weight old (h + k) → kind.weight d ≡ weight_at kind.weight old k +ℤ neg_ℤ (weight_at kind.weight old (h + k)) → kind.size s ≤ size_at kind.size old k + size_at kind.size old (h + k) → kind.size d ≤ size_at kind.size old k + size_at kind.size old (h + k) → Crossed kind h (k + 1) old (set (set cur k s) (h + k) d)
+  pub cross_step : (inv : Crossed kind h k old cur) (s d : R) → kind.weight s ≡ weight_at kind.weight old k +ℤ weight_at kind.weight old (h + k) → kind.weight d ≡ weight_at kind.weight old k +ℤ neg_ℤ (weight_at kind.weight old (h + k)) → kind.size s ≤ size_at kind.size old k + size_at kind.size old (h + k) → kind.size d ≤ size_at kind.size old k + size_at kind.size old (h + k) → Crossed kind h (k + 1) old (set (set cur k s) (h + k) d)
   cross_step inv s d ws wd bs bd = record {
     sum = below_more _ _ (λ j l. at_else kind.weight (pos 0) s d j (omega arith) (omega arith) ∙ inv.sum j l) (at_low kind.weight (pos 0) s d ∙ ws);
     difference = below_more _ _ (λ j l. at_else kind.weight (pos 0) s d (h + j) (omega arith) (omega arith) ∙ inv.difference j l) (at_high kind.weight (pos 0) s d ∙ wd);

@@ -44,7 +44,7 @@ spared_more by reqs i os q a xs ys zs hr ha read one before b all =
     ∙ before b (λ k d e hk. let ne : k ≢ i = omega arith in subst (λ x. used by (get_or reqs k d) x ≤ b) (get_or-set_other os i k a e ne) (all k d e (omega arith)))
 
 module _ {R F : Type 0} (kind : Kind R) (by : F → Meaning) (reqs : List (Request F)) where
-  ran_more : (work : ℕ) (h : List Call) (i : ℕ) (t u v : Sheet R) (os : List (Answer R)) (q : Request F) (a : Answer R) → i < length reqs → i < length os → q ≡ get_or reqs i q →
+  pub ran_more : (work : ℕ) (h : List Call) (i : ℕ) (t u v : Sheet R) (os : List (Answer R)) (q : Request F) (a : Answer R) → i < length reqs → i < length os → q ≡ get_or reqs i q →
       length (cells_of u) ≡ length (cells_of t) →
       Booked kind u v (call_of q) (λ b. AnswersTo kind by work b q a) →
       Ran kind by work h reqs i t u os → Ran kind by work h reqs (i + 1) t v (set os i a)

@@ -1,6 +1,6 @@
 ghost use Rattle.std.specs.Prelude.{◌≡◌, ◌<◌, ◌≤◌, length, drop, Err, MatchResult, OnErr};
 ghost use Rattle.code.specs.declared.refusal.Refusal.TheVariants.{OutputShort};
-ghost use Rattle.sheet.specs.Stands.{Kept};
+ghost use Rattle.sheet.specs.Stands.{Kept, StrikeLaw};
 ghost use Rattle.sheet.specs.Runs.{ByName, Served, RanFrom, RanOver};
 
 use crate::Sheet;
@@ -56,13 +56,20 @@ impl<'a, R: Reading> Sheet<'a, R> {
     {
         match request {
             Request::Pass(samples) => Answer::Passed(self.pass(samples)),
-            Request::Strike(place) => Answer::Struck(self.strike(*place)),
+            Request::Strike(place) => Answer::Struck(self.strike_at(place)),
             Request::Clear => {
                 self.clear();
                 Answer::Cleared
             }
             Request::Search(name) => Answer::Searched(self.search(finder_of(name), work)),
         }
+    }
+
+    // Strikes the place that a request names: a function of its own, since `serve_by` has a proof file and a must-fail edit stands here.
+    fn strike_at(&mut self, place: &usize) -> Result<(), Refusal>
+        ensures { StrikeLaw R.Reading self.old self.new place.now result }
+    {
+        self.strike(*place)
     }
 
     // Makes the requests in order and writes the answers out.

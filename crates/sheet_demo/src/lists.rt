@@ -1,4 +1,4 @@
-use crate::{PLACES, ROWS, WORK};
+use crate::{PLACES, ROWS, WORK, unwritten};
 use anyhow::Result;
 use card_list::requests::{Answer as CardAnswer, Request as CardRequest};
 use code::length::WordLength;
@@ -103,8 +103,10 @@ pub(crate) fn run_lists(rt: &HostRuntime, length: WordLength) -> Result<()> {
         &mut [Level { value: 0 }; WORK],
         &mut answers,
     )?;
-    println!(rt; "The card and the sheet answer as follows; the sheet ends with {count} passes.")?;
-    show_told(rt, told)?;
-    show_answers(rt, answers)?;
+    println!(rt;
+        "The card and the sheet answer as follows; the sheet ends with {count} passes."
+    ).map_err(unwritten)?;
+    show_told(rt, told).map_err(unwritten)?;
+    show_answers(rt, answers).map_err(unwritten)?;
     Ok(())
 }

@@ -3,12 +3,13 @@
 mod lists;
 mod sheets;
 
-use anyhow::Result;
+use anyhow::{Result, anyhow};
 use card::states::{FinishedCard, GroupCard};
 use code::length::WordLength;
 use code::refusal::Refusal;
 use lists::run_lists;
 use sheets::play_strip;
+use std::io;
 
 // The code: words of five places, and four rows whose bit i is the digit at place i.
 const PLACES: usize = 5;
@@ -30,13 +31,18 @@ fn code_e() -> Result<FinishedCard, Refusal> {
     Ok(coset.finish())
 }
 
+// What is said where standard output cannot be written.
+fn unwritten(error: io::Error) -> anyhow::Error {
+    anyhow!("{error:?}")
+}
+
 // Plays a strip on a sheet, and runs a card and a sheet by lists of requests.
 fn run(rt: &HostRuntime) -> Result<()> {
     let card = code_e()?;
-    println!(rt; "\n== A worn strip played three times ==")?;
-    println!(rt; "Message 11 was recorded, with the code word 00101:")?;
+    println!(rt; "\n== A worn strip played three times ==").map_err(unwritten)?;
+    println!(rt; "Message 11 was recorded, with the code word 00101:").map_err(unwritten)?;
     play_strip(rt, &card)?;
-    println!(rt; "\n== Lists of requests to a card and its sheet ==")?;
+    println!(rt; "\n== Lists of requests to a card and its sheet ==").map_err(unwritten)?;
     run_lists(rt, card.word_length())
 }
 

@@ -1,4 +1,4 @@
-use crate::{PLACES, WORK};
+use crate::{PLACES, WORK, unwritten};
 use anyhow::{Context, Result};
 use card::states::FinishedCard;
 use card_finder::card_finder;
@@ -18,7 +18,7 @@ const MESSAGES: u64 = 16;
 fn play(rt: &HostRuntime, sheet: &mut Sheet<Level>, what: &str, samples: &[Sample]) -> Result<()> {
     let count = sheet.pass(samples)?;
     let totals = Spaced(sheet.covered());
-    println!(rt; "  {what}: taken as pass {count}, totals {totals}")?;
+    println!(rt; "  {what}: taken as pass {count}, totals {totals}").map_err(unwritten)?;
     Ok(())
 }
 
@@ -26,7 +26,7 @@ fn play(rt: &HostRuntime, sheet: &mut Sheet<Level>, what: &str, samples: &[Sampl
 fn strike(rt: &HostRuntime, sheet: &mut Sheet<Level>, place: usize) -> Result<()> {
     sheet.strike(place)?;
     let totals = Spaced(sheet.covered());
-    println!(rt; "Place {place} is struck, totals {totals}")?;
+    println!(rt; "Place {place} is struck, totals {totals}").map_err(unwritten)?;
     Ok(())
 }
 
@@ -55,7 +55,9 @@ fn show_runner_up(
         .context("the code has no other message")?;
     let best = agreement_of(second);
     let lag = agreement_of(found).wrapping_sub(best);
-    println!(rt; "The runner-up is message {second} with agreement {best}: it lags by {lag}.")?;
+    println!(rt;
+        "The runner-up is message {second} with agreement {best}: it lags by {lag}."
+    ).map_err(unwritten)?;
     Ok(())
 }
 
@@ -71,11 +73,13 @@ fn search_both(rt: &HostRuntime, card: &FinishedCard, sheet: &mut Sheet<Level>) 
     println!(rt;
         "Searched with the group finder: message {} with agreement {}.",
         group.message, group.reading
-    )?;
+    )
+    .map_err(unwritten)?;
     println!(rt;
         "Searched with the plain finder: message {} with agreement {}.",
         plain.message, plain.reading
-    )?;
+    )
+    .map_err(unwritten)?;
     show_runner_up(rt, card, u64::from(group.message), sheet.covered())
 }
 
@@ -107,7 +111,7 @@ pub(crate) fn play_strip(rt: &HostRuntime, card: &FinishedCard) -> Result<()> {
         Sample::Level(-0.5),
     ];
     play(rt, &mut sheet, "dropout, 0.75, -0.75, -1, -0.5", &third)?;
-    println!(rt; "Place 3 is scratched and would find another number:")?;
+    println!(rt; "Place 3 is scratched and would find another number:").map_err(unwritten)?;
     search_both(rt, card, &mut sheet)?;
     strike(rt, &mut sheet, 3)?;
     search_both(rt, card, &mut sheet)

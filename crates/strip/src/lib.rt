@@ -58,6 +58,9 @@ fn run_with<'q, R: Reading>(
         (Short (length requests.now) (length answers.old)) }
     ensures refused { MatchResult result (λ _. length requests.now ≤ length answers.old) (λ _. (cells.new ≡ cells.old) × (work.new ≡ work.old) × (answers.new ≡ answers.old)) }
 {
+    if answers.len() < requests.len() {
+        return Err(Refusal::OutputShort);
+    }
     let finders = CardFinders::new(card);
     finders.run(cells, requests, work, answers)
 }

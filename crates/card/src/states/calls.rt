@@ -8,7 +8,7 @@ use code::length::WordLength;
 use code::refusal::{Refusal, Section};
 
 // The states are four types by a rule of the project, so each has a contract of its own for `add_row`.
-// The clauses `lawful` tell callers what the invariants of the types hold.
+// The clauses `lawful` and `none_after` tell callers what the invariants of the types hold.
 impl GroupCard {
     // A card just started, with no rows.
     pub fn new(len: WordLength) -> GroupCard
@@ -27,6 +27,7 @@ impl GroupCard {
         ensures card { self.new ≡ added result self.old Group row }
         ensures refused { OnErr result (self.new ≡ self.old) }
         ensures last { OnOk result (rows_of self.new ≡ rows_of self.old ++ row ∷ []) }
+        ensures none_after { NoneAfter self.new Group }
         ensures lawful { Lawful self.new }
     {
         self.table.push(Section::Group, row)
@@ -50,6 +51,7 @@ impl TransformCard {
         ensures card { self.new ≡ added result self.old Transform row }
         ensures refused { OnErr result (self.new ≡ self.old) }
         ensures last { OnOk result (rows_of self.new ≡ rows_of self.old ++ row ∷ []) }
+        ensures none_after { NoneAfter self.new Transform }
         ensures lawful { Lawful self.new }
     {
         self.table.push(Section::Transform, row)

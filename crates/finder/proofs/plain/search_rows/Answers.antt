@@ -18,14 +18,14 @@ use Rattle.finder.proofs.plain.search_rows.Goals as goal
 pub slice_bounds-list-end : goal.slice_bounds-list-end
 slice_bounds-list-end g c =
     let t = c.in_ok-fold.ensures.taken in
-    let f = (taken_facts c.args.span c.message_count-need.result (map g.R.Reading.size c.args.word.now) (length c.args.work.now) t).2 in
+    let f = (taken_facts c.args.span c.args.need (map g.R.Reading.size c.args.word.now) (length c.args.work.now) t).2 in
     let k = c.fold.auto.work in
     omega arith
 
 pub unwrap-requires : goal.unwrap-requires
 unwrap-requires g c =
     let z = g.R.Reading.size in
-    let k = c.message_count-need.result in
+    let k = c.args.need in
     let mid = c.fold.new.work in
     let list = take (k - 0) mid in
     let folded = c.in_ok-fold.ensures in
@@ -33,7 +33,7 @@ unwrap-requires g c =
     let kept = c.fold.auto.work in
     let s : k - 0 ≡ k = omega arith in
     let is : list ≡ take k mid = ap (λ (j : ℕ). take j mid) s in
-    let room : length list ≡ 2 ^ length c.args.rows.now = length-take-le (k - 0) mid (omega arith) ∙ s ∙ c.message_count-need.ensures in
+    let room : length list ≡ 2 ^ length c.args.rows.now = length-take-le (k - 0) mid (omega arith) ∙ s ∙ c.requires.room in
     let most = c.requires.sized.1 in
     let small : sum_by z list ≤ sum_limit = (let t = folded.total in let u = ap (sum_by z) is in omega arith) in
     rw (c.transform.ensures.value ∙ sym (verdict-taken (length list) (sum_by z list) (length c.args.rows.now) c.requires.few room small)) (search rules)
@@ -41,12 +41,12 @@ unwrap-requires g c =
 pub first_largest-requires : goal.first_largest-requires
 first_largest-requires g c =
     let t = c.in_ok-fold.ensures.taken in
-    let f = (taken_facts c.args.span c.message_count-need.result (map g.R.Reading.size c.args.word.now) (length c.args.work.now) t).2 in
+    let f = (taken_facts c.args.span c.args.need (map g.R.Reading.size c.args.word.now) (length c.args.work.now) t).2 in
     let k = c.fold.auto.work in
-    let long = c.transform.auto.list ∙ length-take-le (c.message_count-need.result - 0) c.fold.new.work (omega arith) in
+    let long = c.transform.auto.list ∙ length-take-le (c.args.need - 0) c.fold.new.work (omega arith) in
     let p = pow_pos (length c.args.rows.now) in
     let q : 2 ^ length c.args.rows.now ≤ 2 ^ 16 = pow_mono c.requires.few in
-    let r = c.message_count-need.ensures in
+    let r = c.requires.room in
     (omega arith, omega arith)
 
 pub returns : goal.returns
@@ -57,7 +57,7 @@ returns g c =
     let word = c.args.word.now in
     let work = c.args.work.now in
     let n = c.args.span in
-    let k = c.message_count-need.result in
+    let k = c.args.need in
     let mid = c.fold.new.work in
     let final = c.transform.new.list in
     let folded = c.in_ok-fold.ensures in
@@ -71,7 +71,7 @@ returns g c =
     let list = take (k - 0) mid in
     let is : list ≡ take k mid = ap (λ (j : ℕ). take j mid) s in
     let long : length list ≡ k = length-take-le (k - 0) mid (omega arith) ∙ s in
-    let room : length list ≡ 2 ^ length rows = long ∙ c.message_count-need.ensures in
+    let room : length list ≡ 2 ^ length rows = long ∙ c.requires.room in
     let most = c.requires.sized.1 in
     let small : sum_by z list ≤ sum_limit = (let t = folded.total in let u = ap (sum_by z) is in omega arith) in
     let done : Transformed g.R.Reading list final = transform_taken c.transform.result (Transformed g.R.Reading list final) (λ _. final ≡ list) (length list) (sum_by z list) (length rows) c.requires.few room small c.transform.ensures.value c.transform.ensures.list in
@@ -79,9 +79,9 @@ returns g c =
     (λ x l. at_take w (pos 0) (k - 0) mid x (omega arith) ∙ folded.sums x (omega arith) ∙ ap (λ (j : ℕ). sum_of_slot (λ i. get_or c.columns-slots.result i 0) (weight_at w word) j x) lw) done in
     let m = c.first_largest.result.message in
     let top = subst (λ (j : ℕ). Top (weight_at w final) j m) (c.transform.auto.list ∙ room) c.first_largest.ensures.top in
-    subst (λ (j : ℕ). Answered g.R.Reading (record { span = n; rows = rows; need = j }) word work (final ++ post_of 0 (k - 0) mid) c.first_largest.result) c.message_count-need.ensures (record {
+    record {
       taken = folded.taken;
       is_best = top_same (weight_at w final) (agrees rows (map w word)) (2 ^ length rows) m same top;
       weighs = c.first_largest.ensures.weighs ∙ same m top.within;
       beyond = drop-append-drop (k - 0) mid final k (omega arith) (c.transform.auto.list ∙ length-take-le (k - 0) mid (omega arith)) ∙ folded.beyond;
-    })
+    }

@@ -1,7 +1,7 @@
 use Rattle.std.proofs.Common.{arith, ◌<◌, ◌∙◌}
 use Rattle.std.proofs.lemmas.List.{length-set}
 use Rattle.code.proofs.Tables.{zeros_pushed}
-use Rattle.code.proofs.rows.Rows.push.Goals as goal
+use Rattle.code.proofs.rows.Rows.put_last.Goals as goal
 
 pub invariant_of-self : goal.invariant_of-self
 invariant_of-self g c =
