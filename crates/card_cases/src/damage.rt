@@ -5,7 +5,7 @@ use card_file::read::read_card;
 use card_file::write::write_card;
 use card_list::requests::{Answer, Request, run_requests};
 use code::length::WordLength;
-use code::refusal::{Refusal, Section};
+use code::refusal::{Numbered, Refusal, Section};
 
 // The bytes of code E: four more than its four rows take.
 const E_BYTES: usize = 36;
@@ -32,7 +32,7 @@ fn bytes_of_e() -> Result<[u8; E_BYTES], Refusal> {
 fn expect_refused(bytes: &[u8], due: Refusal) -> anyhow::Result<()> {
     let mut card = code_e()?;
     let answer = read_card(bytes, &mut card);
-    ensure!(answer == Err(due), "a file was not {due:#}");
+    ensure!(answer == Err(due), "a file was not {}", Numbered(due));
     ensure!(
         card == code_e()?,
         "a file that was refused changed the card"

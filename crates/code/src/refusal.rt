@@ -121,14 +121,8 @@ impl Refusal {
     }
 }
 
-// In words; the alternate form `{:#}` puts the number and the layer before them.
 impl fmt::Display for Refusal {
     fn fmt<W: fmt::Write>(&self, f: &mut fmt::Formatter<W>) -> fmt::Result {
-        if f.alternate() {
-            let number = self.number();
-            let layer = self.layer();
-            write!(f, "refused with {number}, of the {layer}: ")?;
-        }
         match *self {
             Refusal::LengthOutOfRange => write!(f, "the word length is not from 1 to 64"),
             Refusal::DigitBeyondLength { section, index } => write!(
@@ -193,3 +187,16 @@ impl fmt::Display for Refusal {
 }
 
 impl Error for Refusal {}
+
+// A refusal that is shown with its number and its layer before its words.
+#[derive(Clone, Copy)]
+pub struct Numbered(pub Refusal);
+
+impl fmt::Display for Numbered {
+    fn fmt<W: fmt::Write>(&self, f: &mut fmt::Formatter<W>) -> fmt::Result {
+        let refusal = self.0;
+        let number = refusal.number();
+        let layer = refusal.layer();
+        write!(f, "refused with {number}, of the {layer}: {refusal}")
+    }
+}

@@ -4,7 +4,7 @@ use card::states::{FinishedCard, GroupCard};
 use card_file::read::read_card;
 use card_file::write::write_card;
 use code::length::WordLength;
-use code::refusal::{Refusal, Section};
+use code::refusal::{Numbered, Refusal, Section};
 use code::spaced::Spaced;
 use std::io;
 
@@ -12,7 +12,7 @@ use std::io;
 fn show_answer(rt: &HostRuntime, what: &str, answer: Result<(), Refusal>) -> io::Result<()> {
     match answer {
         Ok(()) => println!(rt; "  {what}: taken"),
-        Err(refusal) => println!(rt; "  {what} is {refusal:#}."),
+        Err(refusal) => println!(rt; "  {what} is {}.", Numbered(refusal)),
     }
 }
 
@@ -85,7 +85,7 @@ fn encode(rt: &HostRuntime, card: &FinishedCard) -> anyhow::Result<()> {
         Digits(card.encode(11)?)
     )?;
     if let Err(refusal) = card.encode(16) {
-        println!(rt; "Message 16 is {refusal:#}.")?;
+        println!(rt; "Message 16 is {}.", Numbered(refusal))?;
     }
     Ok(())
 }

@@ -2,7 +2,7 @@ use crate::PLACES;
 use card::states::{FinishedCard, GroupCard};
 use card_finder::card_finder;
 use code::length::WordLength;
-use code::refusal::Refusal;
+use code::refusal::{Numbered, Refusal};
 use code::spaced::Spaced;
 use code::words::word_of;
 use coset_layer::CosetLayer;
@@ -68,7 +68,7 @@ fn search<F: Finder>(
             "  {name}: message {} with agreement {}, in {need} readings of work memory",
             found.message, found.reading
         ),
-        Err(refusal) => println!(rt; "  {name}: the word is {refusal:#}."),
+        Err(refusal) => println!(rt; "  {name}: the word is {}.", Numbered(refusal)),
     }
 }
 
@@ -146,11 +146,11 @@ fn refused(rt: &HostRuntime, card: &FinishedCard, work: &mut [Level]) -> anyhow:
         layer.add_row(1)?;
     }
     if let Err(refusal) = layer.add_row(1) {
-        println!(rt; "  A fifth row of a layer is {refusal:#}.")?;
+        println!(rt; "  A fifth row of a layer is {}.", Numbered(refusal))?;
     }
     let full = full_card()?;
     if let Err(refusal) = CosetLayer::new(card_finder::<PlainFinder>(&full)).add_row(1) {
-        println!(rt; "  A row above 24 is {refusal:#}.")?;
+        println!(rt; "  A row above 24 is {}.", Numbered(refusal))?;
     }
     Ok(())
 }

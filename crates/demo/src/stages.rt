@@ -5,7 +5,7 @@ use crate::show::show_message;
 use crate::{PLACES, ROWS};
 use card::states::GroupCard;
 use code::length::WordLength;
-use code::refusal::Refusal;
+use code::refusal::{Numbered, Refusal};
 use code::spaced::Spaced;
 use finder::Finder;
 use finder::fold::{columns, fold};
@@ -118,11 +118,11 @@ pub(crate) fn refusals(rt: &HostRuntime) -> io::Result<()> {
     println!(rt; "\n== What is turned down changes nothing ==")?;
     let mut list = [Level { value: 7 }; 3];
     if let Err(refusal) = transform(&mut list) {
-        println!(rt; "A list of three is {refusal:#}.")?;
+        println!(rt; "A list of three is {}.", Numbered(refusal))?;
     }
     let mut large = [Level { value: 268435456 }, Level { value: -1 }];
     if let Err(refusal) = transform(&mut large) {
-        println!(rt; "A list of 268435456 and -1 is {refusal:#}.")?;
+        println!(rt; "A list of 268435456 and -1 is {}.", Numbered(refusal))?;
     }
     println!(rt; " {}", Spaced(&list))?;
     println!(rt; " {}", Spaced(&large))

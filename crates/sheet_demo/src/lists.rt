@@ -2,6 +2,7 @@ use crate::{PLACES, ROWS, WORK, unwritten};
 use anyhow::Result;
 use card_list::requests::{Answer as CardAnswer, Request as CardRequest};
 use code::length::WordLength;
+use code::refusal::Numbered;
 use reading::level::Level;
 use sample::Sample;
 use sheet::run::{Answer, Request};
@@ -65,7 +66,7 @@ fn show_told(rt: &HostRuntime, told: [CardAnswer; 9]) -> io::Result<()> {
             CardAnswer::Taken => println!(rt; "  {what}: taken")?,
             CardAnswer::Moved => println!(rt; "  {what}: moved on")?,
             CardAnswer::Closed => println!(rt; "  {what}: the card is finished and takes no more")?,
-            CardAnswer::Refused { refusal } => println!(rt; "  {what} is {refusal:#}.")?,
+            CardAnswer::Refused { refusal } => println!(rt; "  {what} is {}.", Numbered(refusal))?,
         }
     }
     Ok(())
@@ -84,7 +85,7 @@ fn show_answers(rt: &HostRuntime, answers: [Answer<Level>; 9]) -> io::Result<()>
             )?,
             Answer::Passed(Err(refusal))
             | Answer::Struck(Err(refusal))
-            | Answer::Searched(Err(refusal)) => println!(rt; "  {what} is {refusal:#}.")?,
+            | Answer::Searched(Err(refusal)) => println!(rt; "  {what} is {}.", Numbered(refusal))?,
         }
     }
     Ok(())
