@@ -57,7 +57,7 @@ fn message_count(rows: usize) -> usize
 }
 
 // Folds the word by the columns of the rows, transforms the list and takes its first largest entry.
-// `sized` is the invariant of a word length, which a caller knows from its own field.
+// `sized` is the invariant of a word length, which a caller knows from its own field. `need` is handed in by `search`, where a wrong one is refused by a fact.
 fn search_rows<R: Reading>(
     rows: &[u64],
     span: WordLength,
